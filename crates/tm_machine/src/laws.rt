@@ -1,0 +1,36 @@
+//! Laws of the definitions. Each function is a theorem: its contract is the law.
+ghost use Rattle.std.specs.Prelude.{◌≡◌, ℕ, List, Some, None};
+ghost use Rattle.tm_defs.specs.declared.changes.Change.{Change};
+ghost use Rattle.tm_defs.specs.declared.changes.Place.{Place};
+ghost use Rattle.tm_defs.specs.declared.events.Step.{Step};
+ghost use Rattle.tm_machine.specs.Changes.{BornText, IsBorn, changed, opened};
+ghost use Rattle.tm_machine.specs.Entries.{AreRight, AreAccurate};
+ghost use Rattle.tm_machine.specs.Machine.{Rules, Machine, Answer, Runs, IsAccurate, machine_of, opening};
+ghost use Rattle.tm_machine.specs.Places.{IsIn, bad_place};
+ghost use Rattle.tm_machine.specs.Scratch.{Tokenizing};
+ghost use Rattle.tm_machine.specs.declared.entries.Entry.{Entry};
+ghost use Rattle.tm_defs.specs.declared.frames.FrameData.{FrameData};
+
+/// The births of one text differ, whatever changes it took.
+pub fn births_differ()
+    ensures opening { (lines : List (List ℕ)) → IsBorn (opened lines) }
+    ensures change { (t : BornText) (c : Change) → IsBorn t → IsIn t.lines c → IsBorn (changed t c) }
+{}
+
+/// A change whose places are in the text has no bad place, and the other way round.
+pub fn bad_places_are_told()
+    ensures good { (lines : List (List ℕ)) (c : Change) → bad_place lines c ≡ None → IsIn lines c }
+    ensures bad { (lines : List (List ℕ)) (c : Change) (place : Place) → bad_place lines c ≡ Some place → ¬ (IsIn lines c) }
+{}
+
+/// Where each good entry is what its line gives from its start, each accurate one is what
+/// tokenizing the text from its first line gives; and a store without an invalid line is that
+/// tokenizing whole.
+pub fn accurate_is_from_scratch()
+    ensures { (k : Tokenizing) (budget : ℕ) (lines : List (List ℕ)) (es : List (Entry (List FrameData))) → AreRight k budget opening lines es → AreAccurate k lines es }
+{}
+
+/// Whatever steps the machine takes, and however it chooses, what is kept is accurate.
+pub fn every_run_is_accurate()
+    ensures { (r : Rules) (lines : List (List ℕ)) (xs : List (Step × Answer)) (m : Machine) → Runs r (machine_of lines) xs m → IsAccurate r m }
+{}
