@@ -1,9 +1,10 @@
 //! Laws of the definitions. Each function is a theorem: its contract is the law.
-ghost use Rattle.std.specs.Prelude.{◌≡◌, ℕ, List, Some, None};
+ghost use Rattle.std.specs.Prelude.{◌≡◌, ◌<◌, ℕ, List, Some, None, length, slice_get};
 ghost use Rattle.tm_defs.specs.declared.changes.Change.{Change};
 ghost use Rattle.tm_defs.specs.declared.changes.Place.{Place};
 ghost use Rattle.tm_defs.specs.declared.events.Step.{Step};
-ghost use Rattle.tm_machine.specs.Changes.{BornText, IsBorn, changed, opened};
+ghost use Rattle.tm_machine.specs.Changes.{BornText, IsBorn, AreIn, changed, changed_by, effects_of, opened, line_after, lines_of, HaveNoBreak};
+ghost use Rattle.tm_machine.specs.Births.{Birth, place_of};
 ghost use Rattle.tm_machine.specs.Entries.{AreRight, AreAccurate};
 ghost use Rattle.tm_machine.specs.Machine.{Rules, Machine, Answer, Runs, IsAccurate, machine_of, opening};
 ghost use Rattle.tm_machine.specs.Places.{IsIn, bad_place};
@@ -15,6 +16,19 @@ ghost use Rattle.tm_defs.specs.declared.frames.FrameData.{FrameData};
 pub fn births_differ()
     ensures opening { (lines : List (List ℕ)) → IsBorn (opened lines) }
     ensures change { (t : BornText) (c : Change) → IsBorn t → IsIn t.lines c → IsBorn (changed t c) }
+{}
+
+/// The line map through the effects of any changes finds the present place of each birth, and none
+/// where the birth is gone; the line there has the same characters.
+pub fn line_map_finds_births()
+    ensures place { (t : BornText) (cs : List Change) (b : Birth) (i : ℕ) → IsBorn t → AreIn t cs → place_of t.births b ≡ Some i → place_of (changed_by t cs).births b ≡ line_after (effects_of t cs) i }
+    ensures line { (t : BornText) (cs : List Change) (i j : ℕ) → AreIn t cs → line_after (effects_of t cs) i ≡ Some j → slice_get (changed_by t cs).lines j ≡ slice_get t.lines i }
+{}
+
+/// The lines of a text hold no line break, and there is at least one.
+pub fn lines_are_lines()
+    ensures no_break { (cs : List ℕ) → HaveNoBreak (lines_of cs) }
+    ensures some { (cs : List ℕ) → 0 < length (lines_of cs) }
 {}
 
 /// A change whose places are in the text has no bad place, and the other way round.
