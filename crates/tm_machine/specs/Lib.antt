@@ -3,6 +3,7 @@ pub mod Changes
 pub mod Entries
 pub mod Machine
 pub mod Places
+pub mod Reach
 pub mod Scratch
 pub mod Settings
 pub mod States

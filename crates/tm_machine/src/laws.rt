@@ -5,10 +5,12 @@ ghost use Rattle.tm_defs.specs.declared.changes.Place.{Place};
 ghost use Rattle.tm_defs.specs.declared.events.Step.{Step};
 ghost use Rattle.tm_machine.specs.Changes.{BornText, IsBorn, AreIn, changed, changed_by, effects_of, opened, line_after, lines_of, HaveNoBreak};
 ghost use Rattle.tm_machine.specs.Births.{Birth, place_of};
-ghost use Rattle.tm_machine.specs.Entries.{AreRight, AreAccurate};
+ghost use Rattle.tm_machine.specs.Entries.{AreRight, AreAccurate, front, start_at};
 ghost use Rattle.tm_machine.specs.Machine.{Rules, Machine, Answer, Runs, IsAccurate, machine_of, opening};
 ghost use Rattle.tm_machine.specs.Places.{IsIn, bad_place};
-ghost use Rattle.tm_machine.specs.Scratch.{Tokenizing};
+ghost use Rattle.tm_machine.specs.Reach.{Stand, IsWithinReach, ReachesMoreThan};
+ghost use Rattle.tm_machine.specs.Scratch.{Tokenizing, state_from_scratch};
+ghost use Rattle.tm_defs.specs.Tables.{Tables, TableEntries, IsNumbering, LacksEntry};
 ghost use Rattle.tm_machine.specs.declared.entries.Entry.{Entry};
 ghost use Rattle.tm_defs.specs.declared.frames.FrameData.{FrameData};
 
@@ -47,4 +49,12 @@ pub fn accurate_is_from_scratch()
 /// Whatever steps the machine takes, and however it chooses, what is kept is accurate.
 pub fn every_run_is_accurate()
     ensures { (r : Rules) (lines : List (List ℕ)) (xs : List (Step × Answer)) (m : Machine) → Runs r (machine_of lines) xs m → IsAccurate r m }
+{}
+
+/// A table that holds only what is reached, and is full for a line, shows that the reach has more
+/// entries of one kind than any number below the table's limit. What the front line makes of a sound
+/// store is reached.
+pub fn full_tables_show_a_large_reach()
+    ensures full { (r : Rules) (stands : List Stand) (t : Tables) (made : TableEntries) (n few : ℕ) → IsNumbering t → IsWithinReach r stands t → few < t.limit → LacksEntry n made t → ReachesMoreThan few r stands }
+    ensures front { (k : Tokenizing) (budget : ℕ) (lines : List (List ℕ)) (es : List (Entry (List FrameData))) (i : ℕ) → AreRight k budget opening lines es → front es ≡ Some i → start_at opening es i ≡ Some (state_from_scratch k lines i) }
 {}
