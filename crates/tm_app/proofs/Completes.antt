@@ -8,7 +8,8 @@ use Rattle.tm_app.specs.declared.status.Status.{Status}
 use Rattle.tm_app.specs.declared.status.Status.TheVariants.{Ok, Usage, FileFault, Refused, SinkFault, OutOfMemory, TableFull}
 use Rattle.tm_app.specs.Told.{Told, HasAdded}
 use Rattle.tm_literal.specs.Setting.{Setting}
-use Rattle.tm_forms.specs.Forms.{settings_in, grammar_in}
+use Rattle.tm_forms.specs.Settings.{settings_in}
+use Rattle.tm_forms.specs.Grammar.{grammar_in}
 use Rattle.tm_forms.specs.Script.{script_in}
 use Rattle.tm_forms.specs.Text.{text_in}
 use Rattle.tm_forms.specs.declared.script.Scripted.{Scripted}

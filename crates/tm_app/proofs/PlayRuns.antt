@@ -1,6 +1,6 @@
 -- A run of steps, one step more, and how it stops.
-use Rattle.std.proofs.Common.{◌≡◌, ℕ, suc, add-one, ◌+◌, ◌<◌, ◌≤◌, List, [], ◌∷◌, ◌++◌, length, take, get_or, Option, Some, refl, ap, sym, ◌∙◌, append_assoc, subst, inl, inr, arith}
-use Rattle.std.specs.Prelude.{slice_get, Contains, Result, Ok, Err, IfErr}
+use Rattle.std.proofs.Common.{◌≡◌, ℕ, suc, add-one, ◌+◌, ◌<◌, ◌≤◌, List, [], ◌∷◌, ◌++◌, length, take, get_or, Option, Some, None, refl, ap, sym, ◌∙◌, append_assoc, subst, inl, inr, arith}
+use Rattle.std.specs.Prelude.{slice_get, Contains, Result, Ok, Err, IfErr, OnOk}
 use Rattle.std.proofs.lemmas.List.{append-nil, take_more, take_all}
 use Rattle.std.proofs.lemmas.Option.{slice_get-get_or}
 use Rattle.tm_defs.specs.declared.events.Step.{Step}
@@ -31,6 +31,10 @@ pub takes-none : (a : Option (List ℕ)) → Takes a a []
 takes-none (Some x) = sym (append-nil x)
 takes-none None = tt
 
+pub on_ok : {T E : Type 0} (r : Result T E) (P Q : Type 0) → (P → Q) → OnOk r P → OnOk r Q
+on_ok (Ok x) P Q f h = f h
+on_ok (Err e) P Q f h = tt
+
 pub if_err : {T E : Type 0} (r : Result T E) (P Q : E → Type 0) → ((e : E) → P e → Q e) → IfErr r P → IfErr r Q
 if_err (Ok x) P Q f h = tt
 if_err (Err e) P Q f h = f e h
@@ -44,9 +48,9 @@ steps-append [] ys = refl
 steps-append (x ∷ xs) ys = ap (λ l. step_of x.step ++ l) (steps-append xs ys) ∙ sym (append_assoc (step_of x.step) (machine_steps xs) (machine_steps ys))
 
 -- one step later there stood at least as much
-pub past-next : (m : Machine) (xs : List Scripted) (i : ℕ) (d : Scripted) → i < length xs → (s : Stand) → Contains (past-of m xs i) s → Contains (past-of m xs (suc i)) s
+pub past-next : (m : Machine) (xs : List Scripted) (i : ℕ) (d : Scripted) → i < length xs → (s : Stand) → Contains (past-of m xs i) s → Contains (past-of m xs (i + 1)) s
 past-next m xs i d h s there =
-    let more : take (suc i) xs ≡ take i xs ++ get_or xs i d ∷ [] = ap (λ n. take n xs) (sym (add-one i)) ∙ take_more xs i d h in
+    let more : take (i + 1) xs ≡ take i xs ++ get_or xs i d ∷ [] = take_more xs i d h in
     let P : List Step → Type 0 = λ l. Contains (stands_of (stand_in m) l) s in
     subst P (sym (ap machine_steps more ∙ steps-append (take i xs) (get_or xs i d ∷ []))) (stands-more (stand_in m) (machine_steps (take i xs)) (machine_steps (get_or xs i d ∷ [])) s there)
 
@@ -56,19 +60,17 @@ step-stand r m n (step.Edit c) (Edited version) d = ap stand_in d.2
 step-stand r m n step.Line (Lined turn) d = ap stand_in d.2
 step-stand r m n _ _ d = absurd d
 
+-- what stood behind a step, and then the steps behind it
+step-first : (r : Rules) (m mid n : Machine) (s : ScriptStep) (xs : List Scripted) (bytes : List ℕ) → Prints r m s bytes mid → Contains (stands_of (stand_in mid) (machine_steps xs)) (stand_in n) → Contains (stands_of (stand_in m) (step_of s ++ machine_steps xs)) (stand_in n)
+step-first r m mid n (Core s) xs bytes d rest =
+    let P : Stand → Type 0 = λ z. Contains (stands_of z (machine_steps xs)) (stand_in n) in
+    stands-later (stand_in m) s (machine_steps xs) (stand_in n) (subst P (step-stand r m mid s d.0 d.1) rest)
+step-first r m mid n Show xs bytes d rest = let P : Machine → Type 0 = λ z. Contains (stands_of (stand_in z) (machine_steps xs)) (stand_in n) in subst P d.0 rest
+
 -- where a run ends is among what stood
 pub plays-stand : (r : Rules) (m n : Machine) (xs : List Scripted) (bytes : List ℕ) → Plays r m xs bytes n → Contains (stands_of (stand_in m) (machine_steps xs)) (stand_in n)
 plays-stand r m n [] bytes p = let P : Machine → Type 0 = λ z. Contains (stands_of (stand_in m) []) (stand_in z) in subst P (sym p.1) (stands-first (stand_in m) [])
-plays-stand r m n (x ∷ xs) bytes p = go x.step p.4
-  where
-    rest : Contains (stands_of (stand_in p.0) (machine_steps xs)) (stand_in n)
-    rest = plays-stand r p.0 n xs p.2 p.5
-
-    go : (s : ScriptStep) → Prints r m s p.1 p.0 → Contains (stands_of (stand_in m) (step_of s ++ machine_steps xs)) (stand_in n)
-    go (Core s) d =
-        let P : Stand → Type 0 = λ z. Contains (stands_of z (machine_steps xs)) (stand_in n) in
-        stands-later (stand_in m) s (machine_steps xs) (stand_in n) (subst P (step-stand r m p.0 s d.0 d.1) rest)
-    go Show d = let P : Machine → Type 0 = λ z. Contains (stands_of (stand_in z) (machine_steps xs)) (stand_in n) in subst P d.0 rest
+plays-stand r m n (x ∷ xs) bytes p = step-first r m p.0 n x.step xs p.1 p.4 (plays-stand r p.0 n xs p.2 p.5)
 
 module _ (r : Rules) where
   first : (m mid n : Machine) (x : Scripted) (more : List ℕ) → mid ≡ m → Prints r mid x.step more n → Prints r m x.step more n
@@ -89,11 +91,11 @@ module _ (r : Rules) where
       subst P (sym (take_more xs i d h)) (plays-push m mid n (take i xs) (get_or xs i d) bytes more run next)
 
   -- a text that a step prints was not written whole
-  pub write-stops : (m n : Machine) (x : Scripted) (bytes : List ℕ) (a b : Option (List ℕ)) (f g : ℕ) (fault : Fault) → Prints r m x.step bytes n → IsWriteStop (TakesFront a b bytes) f g fault → StepStops r m x a b f g fault
-  write-stops m n x bytes a b f g SinkFault p h = ((bytes, n, p, h.0), h.1)
-  write-stops m n x bytes a b f g OutOfMemory p h = inr (bytes, n, p, h)
-  write-stops m n x bytes a b f g TableFull p h = absurd h
-  write-stops m n x bytes a b f g (BadPlace line) p h = absurd h
+  pub write-stops : (m n : Machine) (past : List Stand) (x : Scripted) (bytes : List ℕ) (a b : Option (List ℕ)) (f g : ℕ) (fault : Fault) → Prints r m x.step bytes n → IsWriteStop (TakesFront a b bytes) f g fault → StepStops r m past x a b f g fault
+  write-stops m n past x bytes a b f g SinkFault p h = ((bytes, n, p, h.0), h.1)
+  write-stops m n past x bytes a b f g OutOfMemory p h = inr (bytes, n, p, h)
+  write-stops m n past x bytes a b f g TableFull p h = absurd h
+  write-stops m n past x bytes a b f g (BadPlace line) p h = absurd h
 
   module _ (m mid : Machine) (a b c : Option (List ℕ)) (xs : List Scripted) (i : ℕ) (bytes : List ℕ) (run : Plays r m (take i xs) bytes mid) (taken : Takes a b bytes) where
     stop-now : Takes b c [] → StopsBefore r m i xs a c
@@ -110,10 +112,11 @@ module _ (r : Rules) where
 
     -- a step stops a run
     pub stop-next : (d : Scripted) (f0 f g : ℕ) (fault : Fault) → i < length xs → f0 ≤ f → StepStops r mid (past-of m xs i) (get_or xs i d) b c f g fault → PlayStops r m xs a c f0 g fault
+    unfolding stop-now
     stop-next d f0 f g SinkFault h le s = (stop-within d h s.0, omega (arith, le, s.1))
     stop-next d f0 f g OutOfMemory h le (inl none) = let s = stop-now none in (i, s.bytes, s.last, s.plays, (s.bytes, [], sym (append-nil s.bytes), s.takes))
     stop-next d f0 f g OutOfMemory h le (inr w) = stop-within d h w
-    stop-next d f0 f g TableFull h le s = (i, stop-now s.1, reaches-more r (past-of m xs i) (past-of m xs (suc i)) (past-next m xs i d h) large_reach s.0)
+    stop-next d f0 f g TableFull h le s = (i, stop-now s.1, reaches-more r (past-of m xs i) (past-of m xs (i + 1)) (past-next m xs i d h) large_reach s.0)
     stop-next d f0 f g (BadPlace line) h le s = (i, stop-now s.1, (get_or xs i d, slice_get-get_or xs i d h, s.0))
 
   pub some-now : (m : Machine) (xs : List Scripted) (a c : Option (List ℕ)) (k : ℕ) → StopsBefore r m k xs a c → WritesSome r m xs a c

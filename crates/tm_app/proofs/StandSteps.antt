@@ -23,7 +23,7 @@ use Rattle.tm_machine.specs.Entries.{AreRight}
 use Rattle.tm_machine.specs.Machine.{IsReady, opening}
 use Rattle.tm_machine.specs.Reach.{Stand, stand_in, IsWithinReach, ReachesMoreThan}
 use Rattle.tm_machine.specs.Scratch.{Tokenizing}
-use Rattle.tm_machine.proofs.ReachedTables.{within-new, within-grown, full-reaches}
+use Rattle.tm_machine.proofs.ReachedTables.{within-new, within-more, within-grown, full-reaches}
 use Rattle.tm_model.specs.Held.{Held, held_rules, setting_now, changed_model, new_model, GrowsAtFront, IsTurnCause}
 use Rattle.tm_outside.specs.Causes.{Takes}
 use Rattle.tm_app.specs.Play.{Prints}
@@ -100,6 +100,10 @@ module _ {T P : Type 0} (plain : T → P) (tokenized : P → List FrameData → 
 
   pub new-reached : (settings : List T) (budget : ℕ) (lines : List (List ℕ)) (r : Rules) (past : List Stand) → R r past (new_model settings budget table_limit lines)
   new-reached settings budget lines r past = record { limit = refl; within = within-new r past table_limit }
+
+  -- what is reached stays so
+  pub reached-more : (r : Rules) (few more : List Stand) (held : Held T) → ((s : Stand) → Contains few s → Contains more s) → R r few held → R r more held
+  reached-more r few more held sub h = record { limit = h.limit; within = within-more r few more sub held.tables h.within }
 
   -- a change leaves the tables
   pub edit-reached : (old new : Held T) (c : Change) → new ≡ changed_model old c → (r : Rules) (past : List Stand) → R r past old → R r past new

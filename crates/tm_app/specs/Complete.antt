@@ -1,6 +1,7 @@
 -- When a run has to do all of its work.
 use Rattle.std.specs.Prelude.{◌≡◌, ℕ, List, Option, Some, ⊤}
-use Rattle.tm_forms.specs.Forms.{settings_in, grammar_in}
+use Rattle.tm_forms.specs.Settings.{settings_in}
+use Rattle.tm_forms.specs.Grammar.{grammar_in}
 use Rattle.tm_forms.specs.Script.{script_in}
 use Rattle.tm_forms.specs.Text.{text_in}
 use Rattle.tm_outside.specs.Causes.{Rose}

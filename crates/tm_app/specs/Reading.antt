@@ -1,6 +1,7 @@
 -- The files of a run, in the order in which they are read.
 use Rattle.std.specs.Prelude.{◌≡◌, ℕ, List, [], ◌∷◌, Option, Some, None, ⊤, codes, chars}
-use Rattle.tm_forms.specs.Forms.{settings_in, grammar_in}
+use Rattle.tm_forms.specs.Settings.{settings_in}
+use Rattle.tm_forms.specs.Grammar.{grammar_in}
 use Rattle.tm_forms.specs.Script.{script_in}
 use Rattle.tm_forms.specs.Text.{text_in}
 use Rattle.tm_literal.specs.Setting.{Setting}

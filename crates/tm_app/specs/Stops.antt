@@ -1,5 +1,5 @@
 -- Why the steps of a script may stop, and what was written by then.
-use Rattle.std.specs.Prelude.{◌≡◌, ◌⊎◌, ℕ, suc, List, [], ◌++◌, take, Option, Some, ⊤, slice_get}
+use Rattle.std.specs.Prelude.{◌≡◌, ◌⊎◌, ℕ, ◌+◌, List, [], ◌++◌, take, Option, Some, ⊤, slice_get}
 use Rattle.tm_defs.specs.declared.changes.Change.{Change}
 use Rattle.tm_defs.specs.declared.events.Step.TheVariants.{Edit}
 use Rattle.tm_forms.specs.declared.script.ScriptStep.{ScriptStep}
@@ -56,6 +56,6 @@ module _ (r : Rules) (m : Machine) where
   PlayStops steps before now faults faults_now SinkFault = WritesSome steps before now × Rose faults faults_now
   PlayStops steps before now faults faults_now OutOfMemory = WritesSome steps before now
   PlayStops steps before now faults faults_now TableFull =
-      (k : ℕ) × StopsBefore k steps before now × ReachesMoreThan large_reach r (stands_of (stand_in m) (machine_steps (take (suc k) steps)))
+      (k : ℕ) × StopsBefore k steps before now × ReachesMoreThan large_reach r (stands_of (stand_in m) (machine_steps (take (k + 1) steps)))
   PlayStops steps before now faults faults_now (BadPlace line) =
       (k : ℕ) × (stop : StopsBefore k steps before now) × ((x : Scripted) × (slice_get steps k ≡ Some x) × IsBadEdit stop.last x line)

@@ -2,7 +2,7 @@
 //!
 //! The clauses speak of every machine of births that the model stands for: the machine takes the same
 //! steps, and what it prints is what was written.
-ghost use Rattle.std.specs.Prelude.{◌≡◌, ℕ, List, ◌≤◌, IfErr, OnOk, IsTrue};
+ghost use Rattle.std.specs.Prelude.{◌≡◌, ℕ, List, ◌≤◌, IfErr, OnOk, IsTrue, Option};
 ghost use Rattle.std.specs.List.{list_all};
 ghost use Rattle.tm_app.specs.Printed.{shown};
 ghost use Rattle.tm_app.specs.Stands.{StepDone, StepStopped, AllDone, AllStopped};
@@ -77,12 +77,16 @@ fn do_line<T: LineTok, S: Sink, L: Ledger>(
     ensures err { IfErr result (StepStopped T.plain T.tokenized T.plain_cost T.entries_made model.old step.now (S.taken out.old) (S.taken out.new) (S.faults out.old) (S.faults out.new)) }
     ensures never_falls { S.faults out.old ≤ S.faults out.new }
 {
+    model.sound();
     match model.line(steps) {
         Ok(turn) => match printed::turn_line(alloc, turn) {
             Ok(text) => write_line(text.as_str(), out),
             Err(_) => Err(Fault::OutOfMemory),
         },
-        Err(TableFault::TableFull(_)) => Err(Fault::TableFull),
+        Err(TableFault::TableFull(_)) => {
+            model.sound();
+            Err(Fault::TableFull)
+        }
         Err(TableFault::OutOfMemory) => Err(Fault::OutOfMemory),
     }
 }

@@ -4,7 +4,7 @@ use Rattle.std.proofs.Math.Seq.{take-add}
 use Rattle.std.proofs.lemmas.List.{take_all, append-nil}
 use Rattle.tm_outside.specs.Causes.{Takes, TakesFront}
 
-takes-trans : (a b c : Option (List ℕ)) (x y : List ℕ) → Takes a b x → Takes b c y → Takes a c (x ++ y)
+pub takes-trans : (a b c : Option (List ℕ)) (x y : List ℕ) → Takes a b x → Takes b c y → Takes a c (x ++ y)
 takes-trans (Some a) (Some b) (Some c) x y h k = k ∙ ap (λ l. l ++ y) h ∙ append_assoc a x y
 takes-trans (Some a) (Some b) None x y h k = k
 takes-trans (Some a) None c x y h k = absurd h
@@ -12,7 +12,7 @@ takes-trans None (Some b) c x y h k = absurd h
 takes-trans None None (Some c) x y h k = k
 takes-trans None None None x y h k = tt
 
-takes-as : (a b : Option (List ℕ)) (x y : List ℕ) → x ≡ y → Takes a b x → Takes a b y
+pub takes-as : (a b : Option (List ℕ)) (x y : List ℕ) → x ≡ y → Takes a b x → Takes a b y
 takes-as a b x y e h = let P : List ℕ → Type 0 = λ l. Takes a b l in subst P e h
 
 rest_is : (bytes : List ℕ) (at : ℕ) → take (length bytes - at) (drop at bytes) ≡ drop at bytes

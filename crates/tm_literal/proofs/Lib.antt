@@ -1,0 +1,9 @@
+pub mod Forward
+pub mod Lines
+pub mod Metas
+pub mod Paths
+pub mod Places
+pub mod Starts
+pub mod Tokens
+pub mod Turns
+pub mod Winners
