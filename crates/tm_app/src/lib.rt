@@ -10,3 +10,5 @@ pub mod reading;
 pub mod report;
 pub mod setup;
 pub mod status;
+#[cfg(test)]
+mod tests;

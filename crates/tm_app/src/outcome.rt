@@ -12,9 +12,8 @@ ghost use Rattle.tm_outside.specs.Causes.{Takes, Rose};
 
 use crate::play::Fault;
 use crate::setup::Setup;
-use crate::status;
 use crate::status::{Status, What};
-use crate::{play, report, setup};
+use crate::{play, report, setup, status};
 use std::alloc::Global;
 use std::marker::Brand;
 use std::sync::Arc;

@@ -92,7 +92,11 @@ fn do_line<T: LineTok, S: Sink, L: Ledger>(
 }
 
 /// The step `edit`. It prints nothing.
-fn do_edit<T: LineTok>(model: &mut Model<'_, T>, step: &Scripted, change: &Change) -> Result<(), Fault>
+fn do_edit<T: LineTok>(
+    model: &mut Model<'_, T>,
+    step: &Scripted,
+    change: &Change,
+) -> Result<(), Fault>
     requires { step.now.step ≡ ScriptStep.Core (Step.Edit change.now) }
     ensures ok { OnOk result ((before : Option (List ℕ)) → StepDone T.plain T.tokenized T.plain_cost T.entries_made model.old step.now model.new before before) }
     ensures err { IfErr result (λ fault. (before : Option (List ℕ)) (faults : ℕ) → StepStopped T.plain T.tokenized T.plain_cost T.entries_made model.old step.now before before faults faults fault) }

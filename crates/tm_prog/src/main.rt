@@ -3,23 +3,29 @@
 #![tactic(auto)]
 
 use std::env;
+use std::io::ErrorKind;
 use std::process::ExitCode;
 use tm_app::outcome;
 use tm_app::status::Status;
+use tm_defs::memory::OutOfMemory;
 use tm_outside::real::{RealFiles, StdSink};
 
-/// The words behind the program's own name. Words that are no text are no command.
-fn words_of(rt: HostRuntime) -> Result<Vec<String>, Status> {
+/// The words behind the program's own name. Where one of them is not UTF-8 there are none, which is no
+/// command.
+fn words_of(rt: HostRuntime) -> Result<Vec<String>, OutOfMemory> {
     let mut words = Vec::new(rt.alloc());
-    let Ok(args) = env::args(&rt) else {
-        return Err(Status::OutOfMemory);
-    };
-    for word in args.skip(1) {
-        if words.push(word).is_err() {
-            return Err(Status::OutOfMemory);
+    match env::args(&rt) {
+        Ok(args) => {
+            for word in args.skip(1) {
+                words.push(word)?;
+            }
+            Ok(words)
         }
+        Err(fault) => match fault.kind() {
+            ErrorKind::InvalidData => Ok(words),
+            _ => Err(OutOfMemory),
+        },
     }
-    Ok(words)
 }
 
 fn main(rt: HostRuntime) -> ExitCode {
@@ -29,7 +35,7 @@ fn main(rt: HostRuntime) -> ExitCode {
     let mut err = StdSink::err(rt);
     let status = match words_of(rt) {
         Ok(words) => outcome::run(alloc, &words, &mut files, &mut out, &mut err),
-        Err(status) => status,
+        Err(OutOfMemory) => Status::OutOfMemory,
     };
     ExitCode::from(status.code())
 }

@@ -16,7 +16,8 @@ returns-in-Ok-turn_line-clause-err g c = if_err c.write_line.result _ _ (λ faul
     c.write_line.ensures.err
 
 pub returns-in-Err-TableFull-clause-err : goal.returns-in-Err-TableFull-clause-err
-returns-in-Err-TableFull-clause-err g c = λ r m past s there reached.
-    (full-reached g.T.LineTok.plain g.T.LineTok.tokenized g.T.LineTok.plain_cost g.T.LineTok.entries_made c.args.model.now c.sound.ensures.sound.right r m past s there c.line.new.self _ c.sound-in-Err-TableFull.ensures.numbered
+returns-in-Err-TableFull-clause-err g c = λ r m past s there reached. (
+  full-reached g.T.LineTok.plain g.T.LineTok.tokenized g.T.LineTok.plain_cost g.T.LineTok.entries_made c.args.model.now c.sound.ensures.sound.right r m past s there c.line.new.self _ c.sound-in-Err-TableFull.ensures.numbered
       (line-reached g.T.LineTok.plain g.T.LineTok.tokenized g.T.LineTok.plain_cost g.T.LineTok.entries_made c.args.model.now c.sound.ensures.sound.right r m past s there c.line.new.self c.line.ensures.grows reached) (rw c.in-Err-TableFull.field-0-is at c.in-Err-TableFull.ensures.cause),
-      takes-none (g.S.Sink.taken c.args.out.now))
+  takes-none (g.S.Sink.taken c.args.out.now),
+)

@@ -26,10 +26,14 @@ loop-step-preserved g c = record {
       let so = c.loop-step.invariant.run r m s reached in
       let past = past-of m c.args.script.now c.loop-step.step-index in
       let next = c.in-Ok.ensures.ok r so.1 past so.3 (plays-stand r m so.1 _ so.0 so.2) so.4 in
-      let P : Scripted → Type 0 = λ z. Prints r so.1 z.step next.0 next.1 in
-      (so.0 ++ next.0, next.1, plays-next r m so.1 next.1 (g.S.Sink.taken c.args.out.now) (g.S.Sink.taken c.args.out.now) (g.S.Sink.taken c.args.out.now) c.args.script.now c.loop-step.step-index c.step-item.result so.0 next.0 c.loop-step-test.true so.2 (subst P c.step-item.is next.2), next.3,
+      let P : Scripted → Type 0 = λ z. Prints r so.1 z.step next.0 next.1 in (
+        so.0 ++ next.0,
+        next.1,
+        plays-next r m so.1 next.1 (g.S.Sink.taken c.args.out.now) (g.S.Sink.taken c.args.out.now) (g.S.Sink.taken c.args.out.now) c.args.script.now c.loop-step.step-index c.step-item.result so.0 next.0 c.loop-step-test.true so.2 (subst P c.step-item.is next.2),
+        next.3,
         reached-more g.T.LineTok.plain g.T.LineTok.tokenized g.T.LineTok.plain_cost g.T.LineTok.entries_made r past (past-of m c.args.script.now (c.loop-step.step-index + 1)) c.do_step.new.model (past-next m c.args.script.now c.loop-step.step-index c.step-item.result c.loop-step-test.true) next.4,
-        takes-trans _ _ _ so.0 next.0 so.5 next.5);
+        takes-trans _ _ _ so.0 next.0 so.5 next.5,
+      );
   never_falls = omega (arith, c.loop-step.invariant.never_falls, c.do_step.ensures.never_falls);
 }
 
