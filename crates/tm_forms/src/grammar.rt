@@ -1,4 +1,5 @@
-//! The grammar file.
+//! The grammar file. It is read into rules by number, the form that the tokenizer takes; two laws say
+//! that the numbers mean what the file says, and that no grammar nests too deep for the walk.
 ghost use Rattle.std.specs.Prelude.{◌≡◌, ◌∷◌, option_map, option_and_then, IfOk};
 ghost use Rattle.serde_json.specs.View.{view};
 ghost use Rattle.tm_forms.specs.Grammar.{grammar_in, grammar_of, scope_of, patterns_of, HasLevelsEnough};

@@ -4,15 +4,15 @@
 //! that gives exactly this value, or none where the bytes are of another form.
 #![tactic(auto)]
 
-pub mod edits;
+mod edits;
 pub mod form;
 pub mod grammar;
-pub mod json;
-pub mod letters;
-pub mod rules;
+mod json;
+mod letters;
+mod rules;
 pub mod script;
 pub mod settings;
 #[cfg(test)]
 mod tests;
 pub mod text;
-pub mod utf8;
+mod utf8;

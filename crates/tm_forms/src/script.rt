@@ -1,4 +1,5 @@
-//! The script file: a step in each line.
+//! The script file: a step in each line, as a JSON object. It is split into lines first, so that a
+//! step's line in the script is known to whoever refuses the step.
 ghost use Rattle.std.specs.Prelude.{◌≡◌, map, IfOk, IsTrue, option_map, option_and_then};
 ghost use Rattle.std.specs.List.{list_all};
 ghost use Rattle.serde_json.specs.View.{view};
@@ -16,6 +17,7 @@ use tm_defs::memory::OutOfMemory;
 /// A step of a script: one of the service, of which `edit` and `line` are built, or an order to print.
 #[derive(Drop)]
 pub enum ScriptStep {
+    /// `Step::Edit` or `Step::Line`.
     Core(Step),
     /// All lines of the text are printed with their tokens.
     Show,
@@ -37,11 +39,10 @@ pub struct Script {
 impl Model for Script {
     ghost use Rattle.std.specs.Prelude.{List, IsTrue};
     ghost use Rattle.std.specs.List.{list_all};
+    ghost use Rattle.tm_forms.specs.Script.{is_built};
     ghost use Rattle.tm_forms.specs.declared.script.Scripted.{Scripted};
 
     ghost Value = { List Scripted };
-
-    ghost use Rattle.tm_forms.specs.Script.{is_built};
 
     ghost view = { λ a. a.steps.items };
 
@@ -49,6 +50,7 @@ impl Model for Script {
 }
 
 impl Script {
+    /// The steps in the order of their lines.
     pub fn as_slice(&self) -> &[Scripted]
         ensures value { result.now ≡ self.now }
         ensures built { IsTrue (list_all is_built result.now) }

@@ -1,4 +1,4 @@
-//! The settings file.
+//! The settings file: which grammar tokenizes the text.
 ghost use Rattle.std.specs.Prelude.{◌≡◌, option_map, IfOk};
 ghost use Rattle.serde_json.specs.View.{view};
 ghost use Rattle.tm_forms.specs.Settings.{settings_in, settings_of, grammar_file_of};

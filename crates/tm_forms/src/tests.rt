@@ -61,6 +61,7 @@ fn grammar_text(alloc: Global, bytes: &[u8]) -> Result<String, Fail> {
     let Some(grammar) = Grammar::read(alloc, bytes)? else {
         return Ok(text);
     };
+    crosses(&grammar);
     push_name(&mut text, grammar.scope())?;
     for rule in grammar.rules() {
         match rule {
@@ -131,6 +132,22 @@ fn script_text(alloc: Global, bytes: &[u8]) -> Result<String, Fail> {
     Ok(text)
 }
 
+const OTHER_SETTINGS: [&[u8]; 13] = [
+    b"",
+    b"[]",
+    b"{}",
+    b"{\"settings\":[]}",
+    b"{\"settings\":{\"grammar\":\"g\"}}",
+    b"{\"settings\":[\"g\"]}",
+    b"{\"settings\":[{\"grammar\":1}]}",
+    b"{\"settings\":[{\"grammar\":\"g\"},{\"grammar\":\"g\"}]}",
+    b"{\"settings\":[{\"grammar\":\"g\",\"theme\":null}]}",
+    b"{\"settings\":[{\"grammar\":\"g\"}],\"more\":1}",
+    b"{\"settings\":[{\"grammar\":\"g\"}]",
+    b"{\"settings\":[{\"grammar\":\"\xff\"}]}",
+    b"\xef\xbb\xbf\xef\xbb\xbf{\"settings\":[{\"grammar\":\"g\"}]}",
+];
+
 #[test]
 fn settings_of_their_form(rt: HostRuntime) -> Result<(), Fail> {
     let alloc = rt.alloc();
@@ -155,101 +172,89 @@ fn settings_of_their_form(rt: HostRuntime) -> Result<(), Fail> {
         crosses(&settings);
         assert_eq!(rt; settings.grammar(), want, "{file}");
     }
-    let others: [&[u8]; 13] = [
-        b"",
-        b"[]",
-        b"{}",
-        b"{\"settings\":[]}",
-        b"{\"settings\":{\"grammar\":\"g\"}}",
-        b"{\"settings\":[\"g\"]}",
-        b"{\"settings\":[{\"grammar\":1}]}",
-        b"{\"settings\":[{\"grammar\":\"g\"},{\"grammar\":\"g\"}]}",
-        b"{\"settings\":[{\"grammar\":\"g\",\"theme\":null}]}",
-        b"{\"settings\":[{\"grammar\":\"g\"}],\"more\":1}",
-        b"{\"settings\":[{\"grammar\":\"g\"}]",
-        b"{\"settings\":[{\"grammar\":\"\xff\"}]}",
-        b"\xef\xbb\xbf\xef\xbb\xbf{\"settings\":[{\"grammar\":\"g\"}]}",
-    ];
-    for file in others {
+    for file in OTHER_SETTINGS {
         assert!(rt; !is_of_form::<Settings>(alloc, file)?);
     }
     Ok(())
 }
 
+const OTHER_GRAMMARS: [&str; 25] = [
+    "{\"patterns\":[]}",
+    "{\"scopeName\":\"s\"}",
+    "{\"scopeName\":\"\",\"patterns\":[]}",
+    "{\"scopeName\":\"S\",\"patterns\":[]}",
+    "{\"scopeName\":\"s\",\"patterns\":{}}",
+    "{\"scopeName\":\"s\",\"patterns\":[],\"name\":\"n\"}",
+    "{\"scopeName\":\"s\",\"patterns\":[\"a\"]}",
+    "{\"scopeName\":\"s\",\"patterns\":[{}]}",
+    "{\"scopeName\":\"s\",\"patterns\":[{\"match\":\"\"}]}",
+    "{\"scopeName\":\"s\",\"patterns\":[{\"match\":\"aB\"}]}",
+    "{\"scopeName\":\"s\",\"patterns\":[{\"match\":\"a1\"}]}",
+    "{\"scopeName\":\"s\",\"patterns\":[{\"match\":\"a.\"}]}",
+    "{\"scopeName\":\"s\",\"patterns\":[{\"match\":\"é\"}]}",
+    "{\"scopeName\":\"s\",\"patterns\":[{\"match\":\"a\",\"name\":\"\"}]}",
+    "{\"scopeName\":\"s\",\"patterns\":[{\"match\":\"a\",\"name\":\"N\"}]}",
+    "{\"scopeName\":\"s\",\"patterns\":[{\"match\":\"a\",\"name\":null}]}",
+    "{\"scopeName\":\"s\",\"patterns\":[{\"match\":\"a\",\"more\":1}]}",
+    "{\"scopeName\":\"s\",\"patterns\":[{\"match\":\"a\",\"patterns\":[]}]}",
+    "{\"scopeName\":\"s\",\"patterns\":[{\"match\":\"a\",\"begin\":\"b\",\"end\":\"e\"}]}",
+    "{\"scopeName\":\"s\",\"patterns\":[{\"begin\":\"b\"}]}",
+    "{\"scopeName\":\"s\",\"patterns\":[{\"end\":\"e\"}]}",
+    "{\"scopeName\":\"s\",\"patterns\":[{\"begin\":\"b\",\"end\":\"\"}]}",
+    "{\"scopeName\":\"s\",\"patterns\":[{\"begin\":\"b\",\"end\":\"e\",\"patterns\":1}]}",
+    "{\"scopeName\":\"s\",\"patterns\":[{\"begin\":\"b\",\"end\":\"e\",\"patterns\":[{}]}]}",
+    "{\"scopeName\":\"s\",\"patterns\":[{\"begin\":\"b\",\"end\":\"e\",\"while\":\"w\"}]}",
+];
+
+const GRAMMARS: [(&str, &str); 4] = [
+    ("{\"scopeName\":\"s.t\",\"patterns\":[]}", " s.t, only"),
+    (
+        "\u{feff}{\"patterns\":[{\"match\":\"let\",\"name\":\"keyword.t\"},{\"match\":\"x\"}],\"scopeName\":\".\"}",
+        " ., only 1 2, match let keyword.t, match x -",
+    ),
+    (
+        "{\"scopeName\":\"s\",\"patterns\":[{\"begin\":\"q\",\"end\":\"p\",\"name\":\"c\",\"patterns\":[{\"match\":\"a\"},{\"begin\":\"b\",\"end\":\"e\",\"patterns\":[{\"match\":\"c\"}]},{\"match\":\"d\"}]},{\"begin\":\"z\",\"end\":\"z\"}]}",
+        " s, only 1 6, begin q p c 2 3 5, match a -, begin b e - 4, match c -, match d -, begin z z -",
+    ),
+    (
+        "{\"scopeName\":\"s\",\"patterns\":[{\"match\":\"A\",\"match\":\"a\"}]}",
+        " s, only 1, match a -",
+    ),
+];
+
 #[test]
 fn grammars_of_their_form(rt: HostRuntime) -> Result<(), Fail> {
     let alloc = rt.alloc();
-    let rows = [
-        ("{\"scopeName\":\"s.t\",\"patterns\":[]}", " s.t, only"),
-        (
-            "\u{feff}{\"patterns\":[{\"match\":\"let\",\"name\":\"keyword.t\"},{\"match\":\"x\"}],\"scopeName\":\".\"}",
-            " ., only 1 2, match let keyword.t, match x -",
-        ),
-        (
-            "{\"scopeName\":\"s\",\"patterns\":[{\"begin\":\"q\",\"end\":\"p\",\"name\":\"c\",\"patterns\":[{\"match\":\"a\"},{\"begin\":\"b\",\"end\":\"e\",\"patterns\":[{\"match\":\"c\"}]},{\"match\":\"d\"}]},{\"begin\":\"z\",\"end\":\"z\"}]}",
-            " s, only 1 6, begin q p c 2 3 5, match a -, begin b e - 4, match c -, match d -, begin z z -",
-        ),
-        (
-            "{\"scopeName\":\"s\",\"patterns\":[{\"match\":\"A\",\"match\":\"a\"}]}",
-            " s, only 1, match a -",
-        ),
-    ];
-    for (file, want) in rows {
+    for (file, want) in GRAMMARS {
         assert_eq!(rt;
             grammar_text(alloc, file.as_bytes())?.as_str(),
             want,
             "{file}"
         );
     }
-    let others = [
-        "{\"patterns\":[]}",
-        "{\"scopeName\":\"s\"}",
-        "{\"scopeName\":\"\",\"patterns\":[]}",
-        "{\"scopeName\":\"S\",\"patterns\":[]}",
-        "{\"scopeName\":\"s\",\"patterns\":{}}",
-        "{\"scopeName\":\"s\",\"patterns\":[],\"name\":\"n\"}",
-        "{\"scopeName\":\"s\",\"patterns\":[\"a\"]}",
-        "{\"scopeName\":\"s\",\"patterns\":[{}]}",
-        "{\"scopeName\":\"s\",\"patterns\":[{\"match\":\"\"}]}",
-        "{\"scopeName\":\"s\",\"patterns\":[{\"match\":\"aB\"}]}",
-        "{\"scopeName\":\"s\",\"patterns\":[{\"match\":\"a1\"}]}",
-        "{\"scopeName\":\"s\",\"patterns\":[{\"match\":\"a.\"}]}",
-        "{\"scopeName\":\"s\",\"patterns\":[{\"match\":\"é\"}]}",
-        "{\"scopeName\":\"s\",\"patterns\":[{\"match\":\"a\",\"name\":\"\"}]}",
-        "{\"scopeName\":\"s\",\"patterns\":[{\"match\":\"a\",\"name\":\"N\"}]}",
-        "{\"scopeName\":\"s\",\"patterns\":[{\"match\":\"a\",\"name\":null}]}",
-        "{\"scopeName\":\"s\",\"patterns\":[{\"match\":\"a\",\"more\":1}]}",
-        "{\"scopeName\":\"s\",\"patterns\":[{\"match\":\"a\",\"patterns\":[]}]}",
-        "{\"scopeName\":\"s\",\"patterns\":[{\"match\":\"a\",\"begin\":\"b\",\"end\":\"e\"}]}",
-        "{\"scopeName\":\"s\",\"patterns\":[{\"begin\":\"b\"}]}",
-        "{\"scopeName\":\"s\",\"patterns\":[{\"end\":\"e\"}]}",
-        "{\"scopeName\":\"s\",\"patterns\":[{\"begin\":\"b\",\"end\":\"\"}]}",
-        "{\"scopeName\":\"s\",\"patterns\":[{\"begin\":\"b\",\"end\":\"e\",\"patterns\":1}]}",
-        "{\"scopeName\":\"s\",\"patterns\":[{\"begin\":\"b\",\"end\":\"e\",\"patterns\":[{}]}]}",
-        "{\"scopeName\":\"s\",\"patterns\":[{\"begin\":\"b\",\"end\":\"e\",\"while\":\"w\"}]}",
-    ];
-    for file in others {
+    for file in OTHER_GRAMMARS {
         assert!(rt; !is_of_form::<Grammar>(alloc, file.as_bytes())?, "{file}");
     }
     Ok(())
 }
 
+const TEXTS: [(&[u8], bool); 10] = [
+    (b"", true),
+    (b"\xef\xbb\xbf", true),
+    (b"a\tb ~\n\n", true),
+    (b"a\r\n", false),
+    (b"\x00", false),
+    (b"\x1f", false),
+    (b"\x7f", false),
+    (b"\xc3\xa9", false),
+    (b"\xef\xbb\xbf\xef\xbb\xbf", false),
+    (b"a\xef\xbb\xbf", false),
+];
+
 #[test]
 fn texts_of_their_form(rt: HostRuntime) -> Result<(), Fail> {
     let alloc = rt.alloc();
-    let rows: [(&[u8], bool); 10] = [
-        (b"", true),
-        (b"\xef\xbb\xbf", true),
-        (b"a\tb ~\n\n", true),
-        (b"a\r\n", false),
-        (b"\x00", false),
-        (b"\x1f", false),
-        (b"\x7f", false),
-        (b"\xc3\xa9", false),
-        (b"\xef\xbb\xbf\xef\xbb\xbf", false),
-        (b"a\xef\xbb\xbf", false),
-    ];
-    for (file, want) in rows {
+    for (file, want) in TEXTS {
         assert_eq!(rt; is_of_form::<TextFile>(alloc, file)?, want);
     }
     let marked = TextFile::read(alloc, b"\xef\xbb\xbfa\n")?;
@@ -259,7 +264,7 @@ fn texts_of_their_form(rt: HostRuntime) -> Result<(), Fail> {
     };
     crosses(&marked);
     assert_eq!(rt; marked.as_slice(), ['a', '\n'].as_slice());
-    assert_eq!(rt; marked.into_chars().as_slice(), ['a', '\n'].as_slice());
+    assert_eq!(rt; marked.as_slice(), ['a', '\n'].as_slice());
     let mut long = filled(alloc, 1_000_000)?;
     assert!(rt; is_of_form::<TextFile>(alloc, long.as_slice())?);
     long.push(b'a')?;
@@ -270,63 +275,64 @@ fn texts_of_their_form(rt: HostRuntime) -> Result<(), Fail> {
     Ok(())
 }
 
+const SCRIPTS: [(&str, &str); 33] = [
+    ("", ""),
+    (" \t\r\n\n", ""),
+    ("{\"step\":\"line\"}", ", 0 line"),
+    (
+        "\u{feff}{\"step\":\"line\",\"more\":[1]}\r\n\t \r\n{\"step\":\"show\",\"at\":0}\n",
+        ", 0 line, 2 show",
+    ),
+    (
+        "{\"step\":\"edit\",\"at\":[0,1,4294967295,3],\"text\":\"a\\tb\\n~\"}",
+        ", 0 edit 0 1 4294967295 3 a\tb\n~",
+    ),
+    (
+        "{\"step\":\"show\",\"step\":\"line\",\"from\":0}",
+        ", 0 line",
+    ),
+    ("line", "no"),
+    ("\"line\"", "no"),
+    ("{\"step\":\"Line\"}", "no"),
+    ("{\"step\":1}", "no"),
+    ("{}", "no"),
+    ("{\"step\":\"drain\"}", "no"),
+    ("{\"step\":\"line\"} {\"step\":\"line\"}", "no"),
+    ("{\"step\":\"line\"}\r{\"step\":\"line\"}", "no"),
+    ("{\"step\":\n\"line\"}", "no"),
+    ("{\"step\":\"line\"}\n\u{feff}", "no"),
+    ("\u{feff}\u{feff}", "no"),
+    ("{\"step\":\"show\",\"from\":0}", "no"),
+    ("{\"step\":\"show\",\"to\":null}", "no"),
+    ("{\"step\":\"show\",\"from\":0,\"to\":1}", "no"),
+    ("{\"step\":\"edit\",\"at\":[0,0,0,0]}", "no"),
+    ("{\"step\":\"edit\",\"text\":\"\"}", "no"),
+    ("{\"step\":\"edit\",\"at\":[0,0,0],\"text\":\"\"}", "no"),
+    ("{\"step\":\"edit\",\"at\":[0,0,0,0,0],\"text\":\"\"}", "no"),
+    ("{\"step\":\"edit\",\"at\":[0,0,0,1.0],\"text\":\"\"}", "no"),
+    ("{\"step\":\"edit\",\"at\":[0,0,1e2,0],\"text\":\"\"}", "no"),
+    ("{\"step\":\"edit\",\"at\":[0,-1,0,0],\"text\":\"\"}", "no"),
+    ("{\"step\":\"edit\",\"at\":[0,-0,0,0],\"text\":\"\"}", "no"),
+    (
+        "{\"step\":\"edit\",\"at\":[4294967296,0,0,0],\"text\":\"\"}",
+        "no",
+    ),
+    (
+        "{\"step\":\"edit\",\"at\":[0,0,0,\"0\"],\"text\":\"\"}",
+        "no",
+    ),
+    ("{\"step\":\"edit\",\"at\":[0,0,0,0],\"text\":null}", "no"),
+    ("{\"step\":\"edit\",\"at\":[0,0,0,0],\"text\":\"é\"}", "no"),
+    (
+        "{\"step\":\"edit\",\"at\":[0,0,0,0],\"text\":\"\\r\"}",
+        "no",
+    ),
+];
+
 #[test]
 fn scripts_of_their_form(rt: HostRuntime) -> Result<(), Fail> {
     let alloc = rt.alloc();
-    let rows = [
-        ("", ""),
-        (" \t\r\n\n", ""),
-        ("{\"step\":\"line\"}", ", 0 line"),
-        (
-            "\u{feff}{\"step\":\"line\",\"more\":[1]}\r\n\t \r\n{\"step\":\"show\",\"at\":0}\n",
-            ", 0 line, 2 show",
-        ),
-        (
-            "{\"step\":\"edit\",\"at\":[0,1,4294967295,3],\"text\":\"a\\tb\\n~\"}",
-            ", 0 edit 0 1 4294967295 3 a\tb\n~",
-        ),
-        (
-            "{\"step\":\"show\",\"step\":\"line\",\"from\":0}",
-            ", 0 line",
-        ),
-        ("line", "no"),
-        ("\"line\"", "no"),
-        ("{\"step\":\"Line\"}", "no"),
-        ("{\"step\":1}", "no"),
-        ("{}", "no"),
-        ("{\"step\":\"drain\"}", "no"),
-        ("{\"step\":\"line\"} {\"step\":\"line\"}", "no"),
-        ("{\"step\":\"line\"}\r{\"step\":\"line\"}", "no"),
-        ("{\"step\":\n\"line\"}", "no"),
-        ("{\"step\":\"line\"}\n\u{feff}", "no"),
-        ("\u{feff}\u{feff}", "no"),
-        ("{\"step\":\"show\",\"from\":0}", "no"),
-        ("{\"step\":\"show\",\"to\":null}", "no"),
-        ("{\"step\":\"show\",\"from\":0,\"to\":1}", "no"),
-        ("{\"step\":\"edit\",\"at\":[0,0,0,0]}", "no"),
-        ("{\"step\":\"edit\",\"text\":\"\"}", "no"),
-        ("{\"step\":\"edit\",\"at\":[0,0,0],\"text\":\"\"}", "no"),
-        ("{\"step\":\"edit\",\"at\":[0,0,0,0,0],\"text\":\"\"}", "no"),
-        ("{\"step\":\"edit\",\"at\":[0,0,0,1.0],\"text\":\"\"}", "no"),
-        ("{\"step\":\"edit\",\"at\":[0,0,1e2,0],\"text\":\"\"}", "no"),
-        ("{\"step\":\"edit\",\"at\":[0,-1,0,0],\"text\":\"\"}", "no"),
-        ("{\"step\":\"edit\",\"at\":[0,-0,0,0],\"text\":\"\"}", "no"),
-        (
-            "{\"step\":\"edit\",\"at\":[4294967296,0,0,0],\"text\":\"\"}",
-            "no",
-        ),
-        (
-            "{\"step\":\"edit\",\"at\":[0,0,0,\"0\"],\"text\":\"\"}",
-            "no",
-        ),
-        ("{\"step\":\"edit\",\"at\":[0,0,0,0],\"text\":null}", "no"),
-        ("{\"step\":\"edit\",\"at\":[0,0,0,0],\"text\":\"é\"}", "no"),
-        (
-            "{\"step\":\"edit\",\"at\":[0,0,0,0],\"text\":\"\\r\"}",
-            "no",
-        ),
-    ];
-    for (file, want) in rows {
+    for (file, want) in SCRIPTS {
         assert_eq!(rt;
             script_text(alloc, file.as_bytes())?.as_str(),
             want,

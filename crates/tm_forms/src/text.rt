@@ -1,4 +1,4 @@
-//! The text file.
+//! The text file. Each byte of it is a character; later forms read UTF-8.
 ghost use Rattle.std.specs.Prelude.{◌≡◌, ◌≤◌, ◌&&◌, length, nat_le};
 ghost use Rattle.std.specs.List.{list_all};
 ghost use Rattle.tm_forms.specs.Text.{text_in, is_text_character, greatest_length};
@@ -28,6 +28,7 @@ impl Model for TextFile {
 }
 
 impl TextFile {
+    /// The characters in order.
     pub fn as_slice(&self) -> &[char]
         ensures value { result.now ≡ self.now }
         ensures short { length result.now ≤ greatest_length }
@@ -43,14 +44,14 @@ fn text_byte(byte: u8) -> bool
 }
 
 /// Whether each byte may stand in a text file.
-pub fn all_text(bytes: &[u8]) -> bool
+pub(crate) fn all_text(bytes: &[u8]) -> bool
     ensures { result ≡ list_all is_text_character bytes.now }
 {
     bytes.iter().all(|byte| text_byte(*byte))
 }
 
 /// Whether a file of so many bytes may be a text or a script.
-pub fn short(length: usize) -> bool
+pub(crate) fn short(length: usize) -> bool
     ensures { result ≡ nat_le length greatest_length }
 {
     length <= 1_000_000

@@ -1,8 +1,8 @@
 -- A line is painted to the text's end.
-use Rattle.std.proofs.Common.{◌≡◌, ℕ, zero, suc, ◌+◌, ◌-◌, ◌<◌, ◌≤◌, List, [], ◌∷◌, ◌++◌, refl, ap, sym, ◌∙◌, arith}
+use Rattle.std.proofs.Common.{ℕ, zero, suc, ◌-◌, ◌<◌, ◌≤◌, List, [], ◌∷◌, ◌++◌, arith}
 use Rattle.std.specs.Prelude.{⊤}
 use Rattle.tm_defs.specs.declared.frames.FrameData.{FrameData}
-use Rattle.tm_line_run.specs.LineRun.{Place, Piece, Part, Match, Winner, Nothing, Ends, Begins, Matches, Outcome, Turn, Stops, GoesOn, Grammar, some_open, ended, by_winner, paid, turn, after, runs, line_run}
+use Rattle.tm_line_run.specs.LineRun.{Place, Piece, Match, Winner, Nothing, Ends, Begins, Matches, Outcome, Turn, Stops, GoesOn, Grammar, some_open, ended, by_winner, paid, turn, after, runs, line_run}
 use Rattle.tm_line_run.specs.Laws.{FindsForward}
 use Rattle.tm_line_run.specs.Painted.{painted, furthest}
 use Rattle.tm_line_run.proofs.Turns.{Falls, turn-falls}

@@ -1,9 +1,8 @@
 -- Each turn that goes on leaves less of the text, so the number of turns does not matter.
-use Rattle.std.proofs.Common.{◌≡◌, ℕ, zero, suc, ◌+◌, ◌-◌, ◌<◌, ◌≤◌, Bool, List, [], ◌∷◌, ◌++◌, refl, ap, sym, ◌∙◌, arith}
+use Rattle.std.proofs.Common.{◌≡◌, ℕ, zero, suc, ◌-◌, ◌<◌, ◌≤◌, List, [], ◌∷◌, refl, ap, sym, ◌∙◌, arith}
 use Rattle.std.specs.Prelude.{⊤}
 use Rattle.tm_defs.specs.declared.frames.FrameData.{FrameData}
-use Rattle.tm_defs.specs.Tables.{more_made}
-use Rattle.tm_line_run.specs.LineRun.{Place, Part, Match, Winner, Nothing, Ends, Begins, Matches, Outcome, Turn, Stops, GoesOn, Grammar, some_open, joined, ended, by_winner, paid, turn, after, runs, line_run}
+use Rattle.tm_line_run.specs.LineRun.{Place, Match, Winner, Nothing, Ends, Begins, Matches, Outcome, Turn, Stops, GoesOn, Grammar, some_open, joined, ended, by_winner, paid, turn, after, runs, line_run}
 use Rattle.tm_line_run.specs.Laws.{IsAhead, IsWinnerAhead, FindsForward, IsLineRun}
 
 -- where a turn goes on lies ahead, in the text

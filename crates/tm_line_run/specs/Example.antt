@@ -1,8 +1,7 @@
 -- A worked line: `let (x` under a grammar in which `let` is a keyword (rule 1) and `(` begins a group (rule 2).
-use Rattle.std.specs.Prelude.{ℕ, zero, suc, Bool, false, List, [], ◌∷◌, None}
-use Rattle.tm_defs.specs.declared.frames.FrameData.{FrameData}
+use Rattle.std.specs.Prelude.{ℕ, zero, suc, false, List, [], ◌∷◌}
 use Rattle.tm_defs.specs.declared.tokens.Token.{Token}
-use Rattle.tm_line_run.specs.LineRun.{Place, Match, Winner, Nothing, Begins, Matches, Grammar, opened}
+use Rattle.tm_line_run.specs.LineRun.{Place, Winner, Nothing, Begins, Matches, Grammar, opened}
 
 -- the names `r`, `k` and `g` stand for root, keyword and group
 abbrev pub root : List ℕ

@@ -1,5 +1,5 @@
 -- What is found lies ahead, since no pattern is empty.
-use Rattle.std.proofs.Common.{◌≡◌, ℕ, zero, suc, ◌+◌, ◌-◌, ◌<◌, ◌≤◌, ◌++◌, Bool, true, false, cond, List, [], ◌∷◌, length, take, drop, Some, None, Option, refl, ap, sym, ◌∙◌, arith, nat_eq, nat_lt, length-append, length-drop}
+use Rattle.std.proofs.Common.{◌≡◌, ℕ, ◌+◌, ◌<◌, ◌≤◌, ◌++◌, Bool, true, false, cond, List, [], ◌∷◌, length, drop, Some, None, Option, refl, ap, ◌∙◌, arith, nat_eq, nat_lt, length-append, length-drop}
 use Rattle.std.specs.Prelude.{slice_get, IsTrue, ◌&&◌, ⊤}
 use Rattle.std.specs.List.{list_all, starts_with}
 use Rattle.std.proofs.lemmas.Slice.Eq.{starts_is}

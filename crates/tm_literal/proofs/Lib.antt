@@ -1,5 +1,9 @@
+pub mod Earliest
 pub mod Forward
+pub mod Least
+pub mod Leftmost
 pub mod Lines
+pub mod Matches
 pub mod Metas
 pub mod Paths
 pub mod Places

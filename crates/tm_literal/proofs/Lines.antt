@@ -1,6 +1,6 @@
 -- The line by its turns, and what is left of it.
-use Rattle.std.proofs.Common.{◌≡◌, ℕ, zero, suc, ◌+◌, ◌-◌, ◌<◌, ◌≤◌, ◌++◌, List, [], ◌∷◌, length, map, reverse, Some, None, Option, refl, ap, sym, ◌∙◌, arith, subst, append_assoc}
-use Rattle.std.specs.Prelude.{slice_get, Result, Ok, Err, IsTrue}
+use Rattle.std.proofs.Common.{◌≡◌, ℕ, ◌<◌, ◌≤◌, ◌++◌, List, [], ◌∷◌, length, reverse, Some, refl, ap, sym, ◌∙◌, arith, subst, append_assoc}
+use Rattle.std.specs.Prelude.{slice_get, Ok, Err, IsTrue}
 use Rattle.std.proofs.lemmas.List.{reverse-reverse}
 use Rattle.std.proofs.lemmas.Option.{slice_get_within}
 use Rattle.tm_defs.specs.declared.frames.FrameData.{FrameData}
@@ -9,11 +9,10 @@ use Rattle.tm_defs.specs.declared.tables.TableFault.{TableFault}
 use Rattle.tm_defs.specs.Tables.{Tables, TableEntries, GrowsWithin, more_made, state_at}
 use Rattle.tm_defs.proofs.Growth.{AreAmong, tables-trans, tables-refl, full-more}
 use Rattle.tm_defs.proofs.Chains.{left-among, right-among, state_at-is}
-use Rattle.tm_line_run.specs.LineRun.{Piece, Place, Outcome, Grammar, Turn, Stops, GoesOn, stack_of, some_open, after}
+use Rattle.tm_line_run.specs.LineRun.{Piece, Place, Outcome, Turn, Stops, GoesOn, stack_of, some_open, after}
 use Rattle.tm_line_run.specs.Painted.{painted}
 use Rattle.tm_line_run.specs.declared.painter.Painted.{Painted}
 use Rattle.tm_line_run.proofs.Turns.{Falls}
-use Rattle.tm_literal.specs.declared.turn.Next.{Next}
 use Rattle.tm_literal.specs.declared.turn.Next.TheVariants as next
 use Rattle.tm_literal.specs.Metadata.{metadata_of}
 use Rattle.tm_literal.specs.Ran.{Ran}

@@ -1,5 +1,5 @@
 -- The place of a pattern, one step at a time.
-use Rattle.std.proofs.Common.{◌≡◌, ℕ, suc, ◌+◌, ◌-◌, ◌<◌, ◌≤◌, List, ◌∷◌, length, drop, take, get_or, true, false, Some, Bool, cond, ap, sym, ◌∙◌, arith, add-one, drop-cons, nat_eq, length-drop, refl}
+use Rattle.std.proofs.Common.{◌≡◌, ℕ, ◌+◌, ◌-◌, ◌<◌, List, ◌∷◌, length, drop, take, get_or, true, false, Some, Bool, cond, ap, sym, ◌∙◌, arith, add-one, drop-cons, nat_eq, length-drop}
 use Rattle.std.specs.List.{starts_with}
 use Rattle.std.proofs.lemmas.List.{take_all}
 use Rattle.tm_literal.specs.Search.{place_from}

@@ -1,5 +1,5 @@
 -- A line as its start, its run and its tokens.
-use Rattle.std.proofs.Common.{◌≡◌, ℕ, ◌<◌, ◌≤◌, ◌++◌, List, [], ◌∷◌, length, reverse, Some, Result, Ok, Err, refl, ap, sym, ◌∙◌, subst, arith, length-append}
+use Rattle.std.proofs.Common.{◌≡◌, ℕ, ◌≤◌, ◌++◌, List, [], ◌∷◌, length, reverse, Some, Result, Ok, Err, refl, ap, sym, ◌∙◌, subst, arith, length-append}
 use Rattle.std.specs.Prelude.{slice_get, IsTrue, IfOk, IfErr}
 use Rattle.std.specs.List.{list_all}
 use Rattle.std.proofs.lemmas.List.{reverse-append, reverse-reverse}
@@ -13,7 +13,7 @@ use Rattle.tm_defs.specs.Tables.{Tables, TableEntries, GrowsWithin, IsFullForSom
 use Rattle.tm_defs.specs.Tokenizer.{IsLineCause}
 use Rattle.tm_defs.proofs.Chains.{grows-left, grows-then, full-first, full-then, state_at-is}
 use Rattle.tm_line_run.specs.LineRun.{Outcome, some_open, line_run}
-use Rattle.tm_line_run.specs.Painted.{painted, furthest, meta_at, runs_of, scopes_at}
+use Rattle.tm_line_run.specs.Painted.{painted, furthest, meta_at, runs_of}
 use Rattle.tm_line_run.specs.declared.painter.Painted.{Painted}
 use Rattle.tm_line_run.proofs.Reach.{line_run-reach}
 use Rattle.tm_line_run.proofs.Runs.{runs-painted}

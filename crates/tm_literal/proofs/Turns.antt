@@ -1,16 +1,15 @@
 -- What the body's steps are in the line relation.
-use Rattle.std.proofs.Common.{◌≡◌, ℕ, ◌+◌, ◌<◌, ◌≤◌, ◌++◌, List, [], ◌∷◌, length, reverse, Some, None, Option, Bool, true, false, not, nat_eq, eqb-true, refl, ap, sym, ◌∙◌, arith, get_or, subst}
+use Rattle.std.proofs.Common.{◌≡◌, ℕ, ◌<◌, ◌++◌, List, [], ◌∷◌, length, reverse, Some, None, Option, Bool, true, false, not, nat_eq, eqb-true, refl, ap, sym, ◌∙◌, get_or, subst}
 use Rattle.std.specs.Prelude.{slice_get, Result, Ok, Err, IsTrue, ◌==◌}
-use Rattle.std.specs.Option.{option_to_list}
 use Rattle.std.proofs.lemmas.List.{reverse-append, reverse-reverse}
 use Rattle.std.proofs.lemmas.Option.{slice_get-get_or, get_or_from_slice_get}
 use Rattle.std.proofs.lemmas.Bool.{eqb-false}
 use Rattle.tm_defs.specs.declared.frames.FrameData.{FrameData}
 use Rattle.tm_defs.specs.declared.frames.StateId.{StateId}
-use Rattle.tm_defs.specs.Tables.{Tables, TableEntries, IsNumbering, GrowsWithin, IsFullForSome, none_made, more_made, path_at, state_at, frame_at, deeper_state, only_state}
+use Rattle.tm_defs.specs.Tables.{Tables, IsNumbering, GrowsWithin, IsFullForSome, none_made, more_made, path_at, state_at, frame_at, deeper_state, only_state}
 use Rattle.tm_defs.specs.declared.tables.TableFault.{TableFault}
 use Rattle.tm_defs.proofs.Growth.{slice_get-grown, tables-refl}
-use Rattle.tm_line_run.specs.LineRun.{Place, Part, Grammar, Winner, Turn, Stops, GoesOn, stack_of, paints, names_made, opened, some_open, rests, ended, begun, matched, by_winner, paid, turn}
+use Rattle.tm_line_run.specs.LineRun.{Place, Grammar, Turn, Stops, GoesOn, stack_of, paints, names_made, opened, some_open, rests, ended, begun, matched, by_winner, paid, turn}
 use Rattle.tm_line_run.specs.Painted.{painted}
 use Rattle.tm_line_run.specs.declared.painter.Painted.{Painted}
 use Rattle.tm_literal.specs.declared.rules.Rule.{Rule}
@@ -23,7 +22,7 @@ use Rattle.tm_literal.specs.Grammar.{match_of, names_of, started, of_candidate, 
 use Rattle.tm_literal.specs.Metadata.{metadata_of}
 use Rattle.tm_literal.specs.Search.{earliest_winner, flattened_candidates}
 use Rattle.tm_literal.specs.Tokenizing.{place_of}
-use Rattle.tm_literal.specs.Turned.{Turned, Does, IsHere, place_here, made_in, turn_of}
+use Rattle.tm_literal.specs.Turned.{Does, IsHere, place_here, made_in, turn_of}
 
 pub some-push : (xs : List FrameData) (x : FrameData) → some_open (xs ++ x ∷ []) ≡ true
 some-push [] x = refl

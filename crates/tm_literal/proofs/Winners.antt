@@ -1,10 +1,8 @@
 -- The earliest of candidates, part by part.
-use Rattle.std.proofs.Common.{◌≡◌, ℕ, ◌+◌, ◌<◌, ◌≤◌, ◌++◌, Bool, true, false, cond, nat_lt, List, [], ◌∷◌, length, drop, get_or, Some, None, Option, refl, ap, sym, ◌∙◌, arith, add-one, drop-cons}
+use Rattle.std.proofs.Common.{◌≡◌, ℕ, ◌+◌, ◌<◌, ◌++◌, Bool, true, false, cond, nat_lt, List, [], ◌∷◌, length, drop, get_or, Some, None, Option, refl, ap, sym, ◌∙◌, arith, add-one, drop-cons}
 use Rattle.std.specs.Prelude.{slice_get}
 use Rattle.std.proofs.lemmas.Bool.Decides.{nat_tests}
-use Rattle.std.proofs.lemmas.Option.{slice_get-get_or}
 use Rattle.tm_literal.specs.declared.rules.Rule.{Rule}
-use Rattle.tm_literal.specs.declared.rules.Rule.TheVariants.{Match, BeginEnd, Only}
 use Rattle.tm_literal.specs.declared.rules.Found.{Found}
 use Rattle.tm_literal.specs.Search.{Candidate, found, earlier, earliest_winner, contributed, listed_candidates}
 

@@ -1,3 +1,4 @@
+pub mod Example
 pub mod Forward
 pub mod Grammar
 pub mod Metadata

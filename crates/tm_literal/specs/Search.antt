@@ -1,5 +1,5 @@
 -- Which candidate is found first.
-use Rattle.std.specs.Prelude.{ℕ, zero, suc, ◌+◌, List, [], ◌∷◌, ◌++◌, length, drop, Bool, true, false, if◌then◌else◌, Option, Some, None, nat_eq, nat_lt, slice_get}
+use Rattle.std.specs.Prelude.{ℕ, ◌+◌, List, [], ◌∷◌, ◌++◌, length, drop, Bool, true, false, if◌then◌else◌, Option, Some, None, nat_eq, nat_lt, slice_get}
 use Rattle.std.specs.List.{starts_with}
 use Rattle.tm_literal.specs.declared.rules.Rule.{Rule}
 use Rattle.tm_literal.specs.declared.rules.Rule.TheVariants.{Match, BeginEnd, Only}

@@ -1,6 +1,7 @@
--- What the search means, without its order of trying.
-use Rattle.std.specs.Prelude.{◌≡◌, ℕ, ◌<◌, ◌≤◌, ◌+◌, List, length, take, drop, Some, None, MatchOption, slice_get, Contains}
+-- What the searches mean, without their order of trying.
+use Rattle.std.specs.Prelude.{◌≡◌, ℕ, ◌<◌, ◌≤◌, List, length, take, drop, Some, None, MatchOption, slice_get}
 use Rattle.tm_literal.specs.declared.rules.Found.{Found}
+use Rattle.tm_literal.specs.Metadata.{type_at, decided_type}
 use Rattle.tm_literal.specs.Search.{Candidate, place_from, found, earliest_winner}
 
 -- a pattern stands at a place that lies in the text
@@ -27,3 +28,9 @@ abbrev pub IsEarliest : List ℕ → ℕ → List Candidate → Type 0
 IsEarliest text at cs = MatchOption (earliest_winner text at cs)
     ((j : ℕ) (c : Candidate) → slice_get cs j ≡ Some c → found text at c ≡ None)
     (IsWinner text at cs)
+
+-- the word that decides a scope's token type is the leftmost; with none, no word stands alone in it
+abbrev pub IsLeftmost : List ℕ → Type 0
+IsLeftmost scope = MatchOption (decided_type scope)
+    ((place : ℕ) → place < length scope → type_at scope place ≡ None)
+    (λ type. (place : ℕ) × (place < length scope) × (type_at scope place ≡ Some type) × ((before : ℕ) → before < place → type_at scope before ≡ None))

@@ -1,5 +1,5 @@
 -- What a body did in one turn, where a table holds the open rules by number.
-use Rattle.std.specs.Prelude.{◌≡◌, ℕ, ◌<◌, List, [], ◌∷◌, ◌++◌, length, reverse, Option, Some, None, slice_get, Result, IfOk, IfErr}
+use Rattle.std.specs.Prelude.{◌≡◌, ℕ, ◌<◌, List, ◌++◌, length, reverse, Option, Some, None, slice_get, Result, IfOk, IfErr}
 use Rattle.std.specs.Option.{option_to_list}
 use Rattle.tm_defs.specs.Tables.{Tables, TableEntries, GrowsWithin, IsFullForSome, IsFrameOf, frame_at, state_at, deeper_state}
 use Rattle.tm_defs.specs.declared.tables.TableFault.{TableFault}

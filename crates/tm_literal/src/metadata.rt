@@ -24,8 +24,11 @@ pub enum TokenType {
 }
 
 const COMMENT: [char; 7] = ['c', 'o', 'm', 'm', 'e', 'n', 't'];
+
 const STRING: [char; 6] = ['s', 't', 'r', 'i', 'n', 'g'];
+
 const REGEX: [char; 5] = ['r', 'e', 'g', 'e', 'x'];
+
 const EMBEDDED: [char; 13] = [
     'm', 'e', 't', 'a', '.', 'e', 'm', 'b', 'e', 'd', 'd', 'e', 'd',
 ];

@@ -71,11 +71,7 @@ fn with_break(alloc: Global, line: &Line) -> Result<Vec<char>, AllocError>
 }
 
 /// The state with which a line begins: at the opening state that of the root.
-fn start_of<S: States>(
-    table: &mut S,
-    scope: &Name,
-    start: StateId,
-) -> Result<StateId, TableFault>
+fn start_of<S: States>(table: &mut S, scope: &Name, start: StateId) -> Result<StateId, TableFault>
     requires { start.0 < length (S.tables table.old).states }
     ensures ok { let state = state_at (S.tables table.old) start in IfOk result (λ id. slice_get (S.tables table.new).states id.0 ≡ Some (start_state scope.now state)) }
     ensures grows { let state = state_at (S.tables table.old) start in GrowsWithin (start_made scope.now state) (S.tables table.old) (S.tables table.new) }

@@ -147,13 +147,7 @@ fn ends<S: States>(
     if !has_frames(table, here.below) {
         return rest(table, pieces, here, len);
     }
-    let Ok(()) = paint_both(
-        table,
-        pieces,
-        here.frame.contents,
-        here.frame.names,
-        found,
-    ) else {
+    let Ok(()) = paint_both(table, pieces, here.frame.contents, here.frame.names, found) else {
         return Err(TableFault::OutOfMemory);
     };
     Ok(Next::GoesOn(here.below, found.end))

@@ -1,26 +1,14 @@
 -- What a number stands for, by its link.
-use Rattle.std.proofs.Common.{◌≡◌, ℕ, suc, zero, ◌+◌, ◌-◌, ◌<◌, ◌≤◌, ◌^◌, ◌++◌, List, [], ◌∷◌, length, get_or, Some, None, Option, refl, ap, sym, arith, add-one, ◌∙◌, subst, length-append, inl, inr, ◌⊎◌}
-use Rattle.std.specs.Prelude.{slice_get, Contains}
-use Rattle.std.specs.Option.{option_map}
-use Rattle.std.specs.List.{AllByRecursion}
-use Rattle.std.proofs.Math.ListN.{get_or-append}
-use Rattle.std.proofs.lemmas.List.{append-nil}
-use Rattle.std.proofs.lemmas.Option.{slice_get-get_or, slice_get_within, get_or_from_slice_get}
-use Rattle.tm_defs.specs.declared.frames.FrameData.{FrameData}
-use Rattle.tm_defs.specs.declared.frames.Frame.{Frame}
-use Rattle.tm_defs.specs.declared.frames.TextId.{TextId}
+use Rattle.std.proofs.Common.{◌≡◌, ℕ, ◌+◌, ◌-◌, ◌<◌, List, [], ◌∷◌, length, get_or, Some, ap, sym, arith, ◌∙◌, subst}
+use Rattle.std.specs.Prelude.{slice_get}
+use Rattle.std.proofs.lemmas.Option.{slice_get_within, get_or_from_slice_get}
 use Rattle.tm_defs.specs.declared.frames.ScopeList.{ScopeList}
 use Rattle.tm_defs.specs.declared.frames.StateId.{StateId}
-use Rattle.tm_defs.specs.Tables.{Tables, NoneTwice, IsNumbering, IsFrameOf, IsOptionalText, frame_at, text_at, path_at, state_at, longer_path, deeper_state, GrowsBy, GrowsWithin, only_text, only_path, only_state, IsFullForSome}
-use Rattle.tm_defs.specs.declared.tables.TableFault.{TableFault}
-use Rattle.tm_defs.specs.declared.tables.TableFault.TheVariants.{TableFull}
-use Rattle.std.proofs.Math.Seq.{get_or-append_seam}
+use Rattle.tm_defs.specs.Tables.{Tables, IsFrameOf, frame_at, path_at, state_at, longer_path, deeper_state}
 use Rattle.tm_model.specs.declared.numbering.NameLink.{NameLink}
 use Rattle.tm_model.specs.declared.numbering.FrameLink.{FrameLink}
-use Rattle.tm_model.specs.Numbers.{resolved, LeadBack, paths_of, states_of, without_states, tables_of, AreLinked}
-use Rattle.tm_model.proofs.Linked.{resolved-push, resolved-same, length-resolved, back-push, none_twice-push, all-found, all-unfound, resolved-front, contains-at, back-at}
-use Rattle.tm_defs.proofs.Growth.{grows-refl, slice_get-grown}
-use Rattle.tm_model.proofs.Terms.{some_inj}
+use Rattle.tm_model.specs.Numbers.{paths_of, states_of, without_states, tables_of, AreLinked}
+use Rattle.tm_model.proofs.Linked.{length-resolved, all-found, back-at}
 use Rattle.tm_model.proofs.MoreEntries.{all-at, frames_of}
 use Rattle.tm_model.proofs.OneState.{lift}
 

@@ -1,5 +1,5 @@
 -- A change on shared lines and numbered entries is the change of the model.
-use Rattle.std.proofs.Common.{◌≡◌, ℕ, suc, zero, ◌+◌, ◌-◌, ◌<◌, ◌≤◌, ◌^◌, ◌++◌, List, [], ◌∷◌, length, take, drop, Some, None, Option, refl, false, ap, sym, arith, add-one, ◌∙◌, subst}
+use Rattle.std.proofs.Common.{◌≡◌, ℕ, suc, zero, ◌+◌, ◌-◌, ◌<◌, ◌≤◌, ◌^◌, ◌++◌, List, [], ◌∷◌, length, take, drop, None, Option, refl, false, ap, sym, arith, add-one, ◌∙◌, subst}
 use Rattle.std.specs.Prelude.{map, All}
 use Rattle.std.specs.List.{take-map}
 use Rattle.std.specs.Arc.{arc_value}
@@ -13,8 +13,8 @@ use Rattle.tm_defs.specs.declared.frames.StateId.{StateId}
 use Rattle.tm_defs.specs.Tables.{Tables, TableEntries}
 use Rattle.tm_defs.specs.Tokenizer.{Tokenized}
 use Rattle.tm_machine.specs.declared.entries.Entry.{Entry}
-use Rattle.tm_machine.specs.Changes.{spliced, effect_of, lines_changed, new_lines, lines_of}
-use Rattle.tm_machine.specs.Entries.{blank, blanks, last_end, end_at, replaced, AreRight}
+use Rattle.tm_machine.specs.Changes.{spliced, effect_of, lines_changed, new_lines}
+use Rattle.tm_machine.specs.Entries.{blanks, last_end, end_at, replaced, AreRight}
 use Rattle.tm_machine.specs.Machine.{opening}
 use Rattle.tm_machine.specs.Places.{IsIn, line_at}
 use Rattle.tm_machine.proofs.EntrySteps.{length-right}

@@ -1,11 +1,11 @@
 -- Steps on a list of entries.
-use Rattle.std.proofs.Common.{◌≡◌, ℕ, suc, zero, ◌+◌, ◌<◌, ◌≤◌, Bool, true, false, List, [], ◌∷◌, length, get_or, set, Some, None, Option, refl, ap, sym, not, ◌-◌, ◌++◌, replicate, arith, add-one, ◌∙◌}
-use Rattle.std.specs.Prelude.{slice_get, position, if◌then◌else◌}
+use Rattle.std.proofs.Common.{◌≡◌, ℕ, suc, zero, ◌+◌, ◌<◌, ◌≤◌, Bool, true, false, List, [], ◌∷◌, length, get_or, set, Some, None, Option, refl, ap, not, ◌-◌, ◌++◌, replicate, arith, add-one, ◌∙◌}
+use Rattle.std.specs.Prelude.{if◌then◌else◌}
 use Rattle.std.proofs.lemmas.List.Quantifiers.{position-Some}
 use Rattle.tm_defs.specs.declared.tokens.Token.{Token}
 use Rattle.tm_machine.specs.declared.entries.Entry.{Entry}
 use Rattle.tm_model.specs.Turns.{lines_tried, turn_ticks}
-use Rattle.tm_machine.specs.Entries.{front, put, blocked_at, invalid, first_invalid, end_at, block, blank, blanks}
+use Rattle.tm_machine.specs.Entries.{front, put, blocked_at, invalid, block, blank, blanks}
 
 module _ {S : Type 0} where
   abbrev stored : List Token → S → Entry S

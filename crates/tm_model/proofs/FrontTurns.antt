@@ -1,6 +1,6 @@
 -- A turn on the front of a model.
-use Rattle.std.proofs.Common.{◌≡◌, ℕ, suc, zero, ◌+◌, ◌-◌, ◌<◌, ◌≤◌, ◌^◌, Bool, true, false, not, List, [], ◌∷◌, length, get_or, Some, None, Option, Result, Ok, Err, refl, ap, sym, arith, ◌∙◌, subst, inl, inr}
-use Rattle.std.specs.Prelude.{slice_get, map, position, IfOk, IfErr, OnErr, All}
+use Rattle.std.proofs.Common.{◌≡◌, ℕ, suc, zero, ◌<◌, true, false, not, List, [], ◌∷◌, length, get_or, Some, None, Option, Result, Ok, Err, ap, sym, arith, ◌∙◌, subst, inr}
+use Rattle.std.specs.Prelude.{slice_get, map, IfOk, IfErr, OnErr}
 use Rattle.std.specs.Option.{option_map}
 use Rattle.std.specs.Arc.{arc_value}
 use Rattle.std.specs.declared.sync.Arc.{Arc}
@@ -23,10 +23,10 @@ use Rattle.tm_machine.specs.Scratch.{Tokenizing}
 use Rattle.tm_machine.specs.Settings.{tokenizing_of}
 use Rattle.tm_machine.proofs.EntrySteps.{length-right}
 use Rattle.tm_machine.proofs.RightRuns.{AreRight-turn}
-use Rattle.tm_model.specs.Held.{Held, held_of, IsSound, setting_now, with_state, AreKnown, GrowsAtFront, IsTurnCause}
+use Rattle.tm_model.specs.Held.{Held, held_of, IsSound, setting_now, with_state, GrowsAtFront, IsTurnCause}
 use Rattle.tm_model.specs.Turns.{TurnsAt}
 use Rattle.tm_model.proofs.KnownEnds.{opening-state}
-use Rattle.tm_model.proofs.StateReads.{front-map, blocked-map, start-map, end-map}
+use Rattle.tm_model.proofs.StateReads.{front-map, blocked-map, start-map}
 use Rattle.tm_model.proofs.Terms.{not_false}
 
 -- the end of a good entry is there

@@ -1,5 +1,5 @@
 -- A turn on a line by the number of its end is the turn by its end.
-use Rattle.std.proofs.Common.{◌≡◌, ℕ, ◌+◌, ◌<◌, ◌↔◌, Bool, true, false, IsTrue, List, [], ◌∷◌, length, Some, None, Option, refl, ap, sym, ◌∙◌, subst}
+use Rattle.std.proofs.Common.{◌≡◌, ℕ, ◌<◌, ◌↔◌, Bool, true, false, IsTrue, List, [], length, Some, Option, refl, ap, sym, ◌∙◌, subst}
 use Rattle.std.specs.Prelude.{slice_get, map}
 use Rattle.std.specs.Option.{option_map}
 use Rattle.std.proofs.lemmas.Option.{slice_get_within, get_or_from_slice_get}
@@ -11,7 +11,7 @@ use Rattle.tm_defs.specs.Tokenizer.{Tokenized}
 use Rattle.tm_machine.specs.declared.entries.Entry.{Entry}
 use Rattle.tm_machine.specs.Entries.{put, block, end_at, is_end, stored}
 use Rattle.tm_machine.proofs.SameStates.{is_end-true, is_end-self}
-use Rattle.tm_model.specs.Held.{with_state, AreKnown, IsKnownEnd}
+use Rattle.tm_model.specs.Held.{with_state, AreKnown}
 use Rattle.tm_model.proofs.KnownEnds.{MoreStates, no_fewer, end-grown, entries-grown, known-more, are_known-more, put-known, block-known, end-known, same_end}
 use Rattle.tm_model.proofs.StateReads.{put-map, block-map, end-map}
 
@@ -47,7 +47,7 @@ module _ (t u : Tables) (more : MoreStates t u) (es : List (Entry StateId)) (kno
     same-is same once h = bool_same same (is_end (end_at old i) r.end)
         (λ so. is_end-from (end_at old i) r.end (old_end ∙ ap (option_map (state_at u)) (h.0 so) ∙ ap Some end_state))
         (λ so. h.1 (same_end u once (end_at es i) end (known-more (length t.states) (length u.states) (end_at es i) (no_fewer t u more) (end-known (length t.states) es i known)) end_there
-            (sym old_end ∙ is_end-true (end_at old i) r.end so ∙ ap Some (sym end_state))))
+        (sym old_end ∙ is_end-true (end_at old i) r.end so ∙ ap Some (sym end_state))))
 
     pub stored-map : NoneTwice u.states → (same : Bool) × (IsTrue same ↔ (end_at es i ≡ Some end)) × (after ≡ put es i tokens end same) → map (with_state u) after ≡ stored old i r
     stored-map once (same, h, is) =

@@ -1,7 +1,7 @@
 -- What every model keeps: at the start, and where its readers look.
-use Rattle.std.proofs.Common.{◌≡◌, ℕ, suc, zero, ◌+◌, ◌<◌, ◌≤◌, ◌^◌, ◌-◌, List, [], ◌∷◌, length, Some, None, Option, refl, ap, sym, arith, ◌∙◌, subst, replicate, true}
+use Rattle.std.proofs.Common.{◌≡◌, ℕ, ◌<◌, ◌^◌, ◌-◌, List, [], ◌∷◌, length, None, refl, ap, sym, arith, ◌∙◌, subst, replicate, true}
 use Rattle.std.specs.Prelude.{map, All}
-use Rattle.std.proofs.lemmas.List.{length-map, length-replicate}
+use Rattle.std.proofs.lemmas.List.{length-replicate}
 use Rattle.tm_defs.specs.declared.frames.FrameData.{FrameData}
 use Rattle.tm_defs.specs.declared.frames.StateId.{StateId}
 use Rattle.tm_defs.specs.Tables.{Tables, TableEntries}

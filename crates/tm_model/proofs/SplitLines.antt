@@ -1,6 +1,6 @@
 -- Lines split character by character are the lines of the text.
-use Rattle.std.proofs.Common.{◌≡◌, ℕ, suc, zero, ◌+◌, ◌<◌, ◌≤◌, Bool, true, false, List, [], ◌∷◌, ◌++◌, length, take, get_or, refl, ap, sym, ◌∙◌, arith, append_assoc}
-use Rattle.std.proofs.lemmas.List.{append-nil, map-append}
+use Rattle.std.proofs.Common.{◌≡◌, ℕ, ◌≤◌, Bool, true, false, List, [], ◌∷◌, ◌++◌, length, refl, ap, sym, ◌∙◌, arith, append_assoc}
+use Rattle.std.proofs.lemmas.List.{append-nil}
 use Rattle.tm_machine.specs.Changes.{lines_after, lines_of}
 use Rattle.tm_machine.proofs.TextLines.{lines_some}
 use Rattle.tm_model.specs.Lines.{Split, onto_first, lines_with, Takes}

@@ -1,6 +1,6 @@
 -- Steps on entries by number are the same steps on the states that the numbers stand for.
-use Rattle.std.proofs.Common.{◌≡◌, ℕ, suc, zero, ◌+◌, ◌-◌, ◌<◌, Bool, true, false, not, cond, List, [], ◌∷◌, ◌++◌, length, take, drop, replicate, Some, None, Option, refl, ap, sym, ◌∙◌}
-use Rattle.std.specs.Prelude.{map, position, nat_lt, slice_get}
+use Rattle.std.proofs.Common.{◌≡◌, ℕ, suc, zero, ◌+◌, Bool, true, false, not, cond, List, [], ◌∷◌, length, take, replicate, Some, None, Option, refl, ap, sym, ◌∙◌}
+use Rattle.std.specs.Prelude.{map, nat_lt}
 use Rattle.std.specs.Option.{option_map}
 use Rattle.std.specs.List.{list_all, take-map, prefix_len}
 use Rattle.std.proofs.lemmas.List.Folds.{list_all-map}

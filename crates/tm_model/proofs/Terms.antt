@@ -1,6 +1,5 @@
 -- Small facts on options and truth values.
-use Rattle.std.proofs.Common.{◌≡◌, Bool, true, false, not, Some, Option, None, refl}
-use Rattle.std.specs.Prelude.{IfSome}
+use Rattle.std.proofs.Common.{◌≡◌, Bool, true, false, not, Some, refl}
 
 pub some_inj : {X : Type 0} {x y : X} → Some x ≡ Some y → x ≡ y
 some_inj h = cc

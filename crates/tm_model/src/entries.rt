@@ -92,13 +92,7 @@ fn has_end(entries: &[Entry<StateId>], i: usize, end: StateId) -> bool
 }
 
 /// Stores tokens and end. The next entry is not good any more where the end is not the same.
-fn put_entry(
-    entries: &mut Vec<Entry<StateId>>,
-    i: usize,
-    tokens: Tokens,
-    end: StateId,
-    same: bool,
-)
+fn put_entry(entries: &mut Vec<Entry<StateId>>, i: usize, tokens: Tokens, end: StateId, same: bool)
     requires { i < vec_len entries.old }
     ensures { entries.new.items ≡ put entries.old.items i tokens end same }
 {

@@ -6,4 +6,6 @@ pub mod lines;
 pub mod model;
 pub mod numbering;
 pub mod replaced;
+#[cfg(test)]
+mod tests;
 mod turns;

@@ -8,11 +8,9 @@ ghost use Rattle.tm_machine.specs.Places.{IsIn};
 ghost use Rattle.tm_model.specs.Held.{Held, IsSound, with_state, new_model, changed_model, last_version, setting_now, GrowsAtFront, IsTurnCause, IsChangeCause};
 ghost use Rattle.tm_model.specs.Turns.{turn_ticks};
 
-use crate::entries;
-use crate::lines;
 use crate::numbering::Numbering;
 use crate::replaced::replace_range;
-use crate::turns;
+use crate::{entries, lines, turns};
 use std::alloc::Global;
 use std::sync::Arc;
 use std::sync::ledger::Ledger;

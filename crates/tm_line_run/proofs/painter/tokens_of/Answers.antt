@@ -1,5 +1,5 @@
 use Rattle.tm_line_run.proofs.Runs.{piece_runs-paint, piece_runs-skip, paint-step, all-runs}
-use Rattle.std.proofs.Common.{sym, ap, ◌∙◌, ◌++◌, refl, inl, inr}
+use Rattle.std.proofs.Common.{ap, ◌∙◌, ◌++◌, inl, inr}
 use Rattle.tm_line_run.proofs.painter.tokens_of.Goals as goal
 
 pub loop-piece-preserved-then-piece-painted : goal.loop-piece-preserved-then-piece-painted

@@ -4,7 +4,7 @@ use Rattle.tm_line_run.specs.LineRun.{turn, line_run}
 use Rattle.tm_line_run.proofs.Turns.{turn-falls, line_run-turn}
 use Rattle.tm_literal.specs.Grammar.{literal_grammar}
 use Rattle.tm_literal.specs.Tokenizing.{place_of}
-use Rattle.tm_literal.proofs.Lines.{first-left, goes-left, err-left, stops-left, leads-within, at-place}
+use Rattle.tm_literal.proofs.Lines.{goes-left, err-left, stops-left, leads-within, at-place}
 use Rattle.tm_literal.proofs.run.run.Goals as goal
 
 pub loop-next-preserved : goal.loop-next-preserved

@@ -1,4 +1,4 @@
-use Rattle.std.proofs.Common.{◌≡◌, ◌<◌, ◌≤◌, ◌-◌, length, reverse}
+use Rattle.std.proofs.Common.{◌<◌, ◌≤◌, ◌-◌, length, reverse}
 use Rattle.std.specs.Prelude.{IsTrue}
 use Rattle.tm_defs.specs.Tables.{state_at}
 use Rattle.tm_line_run.specs.LineRun.{some_open, line_run}

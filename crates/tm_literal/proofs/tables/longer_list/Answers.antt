@@ -1,5 +1,5 @@
-use Rattle.std.proofs.Common.{ap, ◌∙◌, ◌++◌, ◌∷◌, [], ◌≡◌}
-use Rattle.tm_defs.specs.Tables.{only_text, only_path, path_at, text_at, longer_path}
+use Rattle.std.proofs.Common.{◌++◌, ◌∷◌, []}
+use Rattle.tm_defs.specs.Tables.{only_text, only_path, path_at}
 use Rattle.tm_defs.proofs.Chains.{grows-then, full_err-then, path_at-grown, text_at-is}
 use Rattle.tm_literal.proofs.tables.longer_list.Goals as goal
 

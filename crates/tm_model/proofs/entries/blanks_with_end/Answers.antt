@@ -1,5 +1,3 @@
-use Rattle.std.proofs.Common.{◌≡◌, ◌∙◌, ap, ◌++◌, ◌∷◌, [], arith}
-use Rattle.tm_machine.specs.Entries.{blank, blanks}
 use Rattle.tm_model.proofs.EntryLists.{blanks-last}
 use Rattle.tm_model.proofs.entries.blanks_with_end.Goals as goal
 

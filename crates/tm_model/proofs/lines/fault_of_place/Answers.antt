@@ -1,6 +1,5 @@
-use Rattle.std.proofs.Common.{ap, sym, ◌∙◌, map, length, arith}
+use Rattle.std.proofs.Common.{ap, sym, ◌∙◌, map, length}
 use Rattle.std.specs.Arc.{arc_value}
-use Rattle.std.proofs.lemmas.List.{length-map}
 use Rattle.tm_machine.specs.Places.{line_fault}
 use Rattle.tm_model.proofs.LineReads.{line_there, short_at}
 use Rattle.tm_model.proofs.lines.fault_of_place.Goals as goal

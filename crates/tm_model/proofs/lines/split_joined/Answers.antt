@@ -1,4 +1,4 @@
-use Rattle.std.proofs.Common.{◌≡◌, ap, refl, map, false, [], ◌++◌, ◌∷◌}
+use Rattle.std.proofs.Common.{ap, refl, map, false}
 use Rattle.std.specs.Arc.{arc_value}
 use Rattle.tm_model.proofs.SplitLines.{split_of, lines-joined}
 use Rattle.tm_model.proofs.lines.split_joined.Goals as goal

@@ -1,7 +1,7 @@
-use Rattle.std.proofs.Common.{◌≡◌, take}
+use Rattle.std.proofs.Common.{take}
 use Rattle.std.specs.Prelude.{map}
 use Rattle.std.specs.Arc.{arc_value}
-use Rattle.tm_model.specs.Lines.{Split, Takes}
+use Rattle.tm_model.specs.Lines.{Takes}
 use Rattle.tm_model.proofs.lines.take_text.Given as goal
 
 abbrev pub invariant-loop-c : goal.invariant-loop-c

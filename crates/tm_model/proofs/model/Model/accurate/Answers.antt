@@ -1,6 +1,6 @@
-use Rattle.std.proofs.Common.{ap, sym, ◌∙◌, subst, ◌≡◌}
+use Rattle.std.proofs.Common.{ap, sym, ◌∙◌, subst}
 use Rattle.tm_machine.specs.Entries.{is_accurate}
-use Rattle.tm_model.specs.Held.{Held, IsSound}
+use Rattle.tm_model.specs.Held.{IsSound}
 use Rattle.tm_model.proofs.SoundModels.{scratch-sound}
 use Rattle.tm_model.proofs.StateReads.{accurate-map}
 use Rattle.tm_model.proofs.model.Model.accurate.Goals as goal

@@ -1,4 +1,4 @@
-use Rattle.std.proofs.Common.{◌≡◌, ap, sym, ◌∙◌, subst, map}
+use Rattle.std.proofs.Common.{ap, sym, ◌∙◌, subst, map}
 use Rattle.std.specs.Arc.{arc_value}
 use Rattle.tm_machine.specs.Places.{IsIn, bad_place}
 use Rattle.tm_machine.proofs.PlaceTests.{bad_place-none}

@@ -1,10 +1,9 @@
-use Rattle.std.proofs.Common.{◌≡◌, ◌<◌, Some, false, true, refl, ap, sym, ◌∙◌, map, length, get_or, arith, inl}
-use Rattle.std.specs.Prelude.{slice_get}
+use Rattle.std.proofs.Common.{◌≡◌, Some, false, true, refl, ap, sym, ◌∙◌, map, length, get_or, arith, inl}
 use Rattle.std.specs.Arc.{arc_value}
 use Rattle.std.proofs.lemmas.Option.{slice_get-get_or}
 use Rattle.tm_defs.specs.Tables.{state_at}
 use Rattle.tm_machine.specs.Entries.{front, blocked_at, start_at}
-use Rattle.tm_model.specs.Held.{Held, held_of, with_state}
+use Rattle.tm_model.specs.Held.{held_of, with_state}
 use Rattle.tm_model.proofs.EntryLists.{front-within, ticks-idle, ticks-blocked, ticks-front}
 use Rattle.tm_model.proofs.FrontTurns.{FrontLine, front-line, never_unstarted, turns-front, grows-front, cause-front, sound-front, line-within}
 use Rattle.tm_model.proofs.KnownEnds.{start-known, opening-within}
@@ -61,10 +60,12 @@ here : (g : given.Over) (c : goal.After-tokenize_line g) → FrontLine g.T.LineT
 here g c =
     let at : front c.self.inside.entries.items ≡ Some c.in-Some.i = ap front (sym c.as_slice.ensures.value) ∙ sym c.in-Some.ensures in
     let within = line-within g.T.LineTok.plain g.T.LineTok.tokenized g.T.LineTok.plain_cost g.T.LineTok.entries_made _ _ _ _ _ _ _ c.in-Some.i c.self.invariant.0 (front-within c.self.inside.entries.items c.in-Some.i at) in
+    let free : blocked_at c.self.inside.entries.items c.in-Some.i ≡ false = sym (ap (λ es. blocked_at es c.in-Some.i) c.as_slice-2.ensures.value) ∙ sym c.is_blocked.ensures ∙ c.if-is_blocked.false in
+    let start : start_at (Some (record { 0 = 0 })) c.self.inside.entries.items c.in-Some.i ≡ Some c.in-Some-start_of.start = ap (λ es. start_at (Some (record { 0 = 0 })) es c.in-Some.i) (sym c.as_slice-3.ensures.value) ∙ sym c.in-Some-start_of.ensures in
     front-line g.T.LineTok.plain g.T.LineTok.tokenized g.T.LineTok.plain_cost g.T.LineTok.entries_made _ _ _ _ _ c.self.inside.entries.items c.self.inside.table c.in-Some.i c.in-Some-start_of.start c.deref.result.now _
     c.known.ensures at
-    (sym (ap (λ es. blocked_at es c.in-Some.i) c.as_slice-2.ensures.value) ∙ sym c.is_blocked.ensures ∙ c.if-is_blocked.false)
-    (ap (λ es. start_at (Some (record { 0 = 0 })) es c.in-Some.i) (sym c.as_slice-3.ensures.value) ∙ sym c.in-Some-start_of.ensures)
+    free
+    start
     (line_there c.self.inside.lines.items c.in-Some.i c.index.result.now c.deref.result.now within c.index.ensures c.deref.ensures)
     (slice_get-get_or c.self.inside.settings.now c.self.inside.epoch c.index-self-self.result c.self.invariant.0.epoch)
 
@@ -93,6 +94,10 @@ returns-clause-cause g c =
 pub returns-clause-ticks : goal.returns-clause-ticks
 returns-clause-ticks g c =
     let ready = (here g c).ready in
-    omega (arith, c.tokenize_line.ensures.ticks, ticks-front c.args.self.now.entries c.in-Some.i
-        (ap (λ h. front h.entries) (sym c.self.view_is) ∙ ready.at_front)
-        (ap (λ h. blocked_at h.entries c.in-Some.i) (sym c.self.view_is) ∙ ready.not_blocked))
+    omega (
+      arith,
+      c.tokenize_line.ensures.ticks,
+      ticks-front c.args.self.now.entries c.in-Some.i
+          (ap (λ h. front h.entries) (sym c.self.view_is) ∙ ready.at_front)
+          (ap (λ h. blocked_at h.entries c.in-Some.i) (sym c.self.view_is) ∙ ready.not_blocked),
+    )

@@ -1,4 +1,4 @@
-use Rattle.std.proofs.Common.{◌≡◌, ℕ, ◌+◌, length, arith}
+use Rattle.std.proofs.Common.{◌≡◌, ◌+◌, length, arith}
 use Rattle.tm_model.proofs.OneState.{intern-found, intern-full, intern-invariant, intern-ok, intern-grows, intern-fits, intern-count}
 use Rattle.tm_model.proofs.numbering.NumberingStates.intern.Goals as goal
 

@@ -1,5 +1,4 @@
-use Rattle.std.proofs.Common.{◌≡◌, ℕ, ◌-◌, length, arith, ap, ◌∙◌, get_or, [], Some, refl}
-use Rattle.std.specs.Prelude.{slice_get}
+use Rattle.std.proofs.Common.{◌-◌, arith, ap, ◌∙◌, get_or, [], refl}
 use Rattle.std.proofs.lemmas.Option.{get_or_from_slice_get, slice_get_read}
 use Rattle.tm_model.proofs.ByLink.{last-within, last-parts, last-in_range}
 use Rattle.tm_model.proofs.numbering.NumberingStates.last.Goals as goal

@@ -1,5 +1,4 @@
-use Rattle.std.proofs.Common.{◌≡◌, ℕ, ◌+◌, length, arith, ap, ◌∙◌, Some}
-use Rattle.std.specs.Prelude.{slice_get}
+use Rattle.std.proofs.Common.{◌≡◌, ◌+◌, length, arith}
 use Rattle.tm_model.proofs.OnePath.{push-found, push-full, push-invariant, push-ok, push-grows, push-fits, push-count}
 use Rattle.tm_model.proofs.numbering.NumberingStates.push.Goals as goal
 

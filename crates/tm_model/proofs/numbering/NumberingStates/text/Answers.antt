@@ -1,4 +1,4 @@
-use Rattle.std.proofs.Common.{◌≡◌, ℕ, length, arith}
+use Rattle.std.proofs.Common.{◌≡◌, length, arith}
 use Rattle.tm_model.proofs.OneText.{text-full, text-invariant, text-grows, text-ok}
 use Rattle.tm_model.proofs.numbering.NumberingStates.text.Goals as goal
 
