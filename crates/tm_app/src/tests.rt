@@ -1,7 +1,12 @@
 //! Whole runs, in memory.
+ghost use Rattle.std.specs.Prelude.{map, string_bytes, IsTrue};
+ghost use Rattle.tm_app.specs.Outcome.{Outcome};
+
 use crate::outcome;
+use crate::status::Status;
 use std::alloc::Global;
 use std::test::Fail;
+use tm_outside::files::Files;
 use tm_outside::honest::HonestSink;
 use tm_outside::memory::{MemFiles, MemSink};
 use tm_outside::sink::Sink;
@@ -54,6 +59,35 @@ fn replays<S: Sink>(
 ) -> Result<u8, Fail> {
     let words = list(alloc, &["replay", "s", "t", "e"])?;
     Ok(outcome::run(alloc, &words, files, out, err).code())
+}
+
+/// Whether all steps were done.
+fn is_done<F: Files, S: Sink>(
+    alloc: Global,
+    words: &Vec<String>,
+    files: &mut F,
+    out: &mut S,
+    err: &mut S,
+) -> bool
+    ensures { IsTrue result → Outcome (map string_bytes words.now.items) (F.bytes files.old) (F.failed files.old) (F.failed files.new) (S.taken out.old) (S.taken out.new) (S.faults out.old) (S.faults out.new) Status.Ok }
+{
+    match outcome::run(alloc, words, files, out, err) {
+        Status::Ok => true,
+        _ => false,
+    }
+}
+
+/// A sink that takes all.
+#[test]
+fn all_is_done(rt: HostRuntime) -> Result<(), Fail> {
+    let alloc = rt.alloc();
+    let words = list(alloc, &["replay", "s", "t", "e"])?;
+    let mut files = files_of(alloc, [SETTINGS, WORDS, "x", "{\"step\":\"line\"}"], &[])?;
+    let mut out = HonestSink::new(Vec::new(alloc));
+    let mut err = HonestSink::new(Vec::new(alloc));
+    assert!(rt; is_done(alloc, &words, &mut files, &mut out, &mut err));
+    assert_eq!(rt; out.bytes(), b"line 0\n".as_slice());
+    Ok(())
 }
 
 /// Grammar, text, script, what is printed, and the text of the status: each status by its rule.

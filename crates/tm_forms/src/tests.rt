@@ -264,7 +264,6 @@ fn texts_of_their_form(rt: HostRuntime) -> Result<(), Fail> {
     };
     crosses(&marked);
     assert_eq!(rt; marked.as_slice(), ['a', '\n'].as_slice());
-    assert_eq!(rt; marked.as_slice(), ['a', '\n'].as_slice());
     let mut long = filled(alloc, 1_000_000)?;
     assert!(rt; is_of_form::<TextFile>(alloc, long.as_slice())?);
     long.push(b'a')?;
