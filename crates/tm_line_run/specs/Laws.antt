@@ -15,9 +15,14 @@ IsWinnerAhead end at (Matches rule m) = IsAhead end at m
 
 -- whatever is found moves the line forward
 abbrev pub FindsForward : Grammar → Type 0
-FindsForward g = (frame : FrameData) (has_end : Bool) (at : ℕ) → at ≤ g.end → IsWinnerAhead g.end at (g.winner frame has_end at)
+FindsForward g =
+    (frame : FrameData) (has_end : Bool) (at : ℕ) → at ≤ g.end → IsWinnerAhead g.end at (g.winner frame has_end at)
 
--- the run from each place of the text is one turn, and then the run from where it goes on; no other function is so
+-- the run from each place of the text is one turn, and then the run from where it goes on
+abbrev pub MeetsEquation : Grammar → (Place → Outcome) → Type 0
+MeetsEquation g run = (p : Place) → p.at ≤ g.end → run p ≡ after run (turn g p)
+
+-- the line relation meets its equation, and no other function does
 pub record IsLineRun (g : Grammar) : Type 0 where
-  pub equation : (p : Place) → p.at ≤ g.end → line_run g p ≡ after (line_run g) (turn g p)
-  pub only : (run : Place → Outcome) → ((p : Place) → p.at ≤ g.end → run p ≡ after run (turn g p)) → (p : Place) → p.at ≤ g.end → run p ≡ line_run g p
+  pub equation : MeetsEquation g (line_run g)
+  pub only : (run : Place → Outcome) → MeetsEquation g run → (p : Place) → p.at ≤ g.end → run p ≡ line_run g p

@@ -4,7 +4,8 @@ use Rattle.std.specs.Prelude.{ℕ, zero, suc, ◌+◌, ◌-◌, ◌==◌, Bool, 
 use Rattle.tm_defs.specs.declared.frames.FrameData.{FrameData}
 use Rattle.tm_defs.specs.Tables.{TableEntries, none_made, more_made}
 
--- where a line stands: the innermost open rule, those around it from the nearest outward, and the position in characters
+-- where a line stands: the innermost open rule, those around it from the nearest outward, and the
+-- position in characters
 pub record Place : Type 0 where
   pub top : FrameData
   pub below : List FrameData
@@ -42,9 +43,9 @@ pub data Winner : Type 0 where
   Begins : ℕ → Match → Winner
   Matches : ℕ → Match → Winner
 
--- what the rules say of one text: its length with the line break; what is found from a position on by the innermost
--- rule, whose end counts where the Bool says that a rule is open around it; the steps of that search; and the names
--- that a found rule pushes
+-- what the rules say of one text: its length with the line break; what is found from a position on
+-- by the innermost rule, whose end counts where the Bool says that a rule is open around it; the steps
+-- of that search; and the names that a found rule pushes
 pub record Grammar : Type 0 where
   pub end : ℕ
   pub winner : FrameData → Bool → ℕ → Winner
@@ -61,15 +62,25 @@ some_open (f ∷ fs) = true
 abbrev pub joined : Part → Part → Part
 joined a b = record { pieces = a.pieces ++ b.pieces; made = more_made a.made b.made; cost = a.cost + b.cost }
 
+abbrev pub piece : ℕ → List (List ℕ) → Piece
+piece end scopes = record { end = end; scopes = scopes }
+
 -- the one scopes up to a match, and the other over it
 abbrev pub paints : List (List ℕ) → List (List ℕ) → Match → List Piece
-paints outer inner m = record { end = m.start; scopes = outer } ∷ record { end = m.end; scopes = inner } ∷ []
+paints outer inner m = piece m.start outer ∷ piece m.end inner ∷ []
+
+-- a part without a search
+abbrev pub adds : List Piece → TableEntries → Part
+adds pieces made = record { pieces = pieces; made = made; cost = 0 }
+
+abbrev pub name_made : List (List ℕ) → List ℕ → TableEntries
+name_made scopes name = record { texts = name ∷ []; paths = (scopes ++ name ∷ []) ∷ []; states = [] }
 
 -- names that are pushed one by one make each text, and each longer list
 abbrev pub names_made : List (List ℕ) → List (List ℕ) → TableEntries
 names_made scopes [] = none_made
 names_made scopes (name ∷ names) =
-    more_made (record { texts = name ∷ []; paths = (scopes ++ name ∷ []) ∷ []; states = [] }) (names_made (scopes ++ name ∷ []) names)
+    more_made (name_made scopes name) (names_made (scopes ++ name ∷ []) names)
 
 -- a state is made with its outermost rule first
 abbrev pub state_made : List FrameData → TableEntries
@@ -77,17 +88,18 @@ state_made stack = record { texts = []; paths = []; states = reverse stack ∷ [
 
 -- the frame of a rule that has just begun
 abbrev pub opened : ℕ → List (List ℕ) → Bool → FrameData
-opened rule scopes at_eol = record { rule = rule; end = None; names = scopes; contents = scopes; at_eol = at_eol }
+opened rule scopes at_eol =
+    record { rule = rule; end = None; names = scopes; contents = scopes; at_eol = at_eol }
 
 -- nothing is found: the content scopes are painted to the text's end, and the line stops
 abbrev pub rests : ℕ → Place → Turn
-rests end p = Stops (record { pieces = record { end = end; scopes = p.top.contents } ∷ []; made = none_made; cost = 0 }) (stack_of p)
+rests end p = Stops (adds (piece end p.top.contents ∷ []) none_made) (stack_of p)
 
 -- the innermost rule ends, and its end is painted with its name scopes; the outermost rule has no end
 abbrev pub ended : ℕ → Place → Match → List FrameData → Turn
 ended end p m [] = rests end p
 ended end p m (next ∷ rest) =
-    GoesOn (record { pieces = paints p.top.contents p.top.names m; made = none_made; cost = 0 })
+    GoesOn (adds (paints p.top.contents p.top.names m) none_made)
     (record { top = next; below = rest; at = m.end })
 
 -- a rule begins: it is open from here on, with its names pushed onto the content scopes
@@ -95,13 +107,14 @@ abbrev pub begun : ℕ → Place → ℕ → Match → List (List ℕ) → Turn
 begun end p rule m names =
     let scopes = p.top.contents ++ names in
     let frame = opened rule scopes (m.end == end) in
-    GoesOn (record { pieces = paints p.top.contents scopes m; made = more_made (names_made p.top.contents names) (state_made (frame ∷ stack_of p)); cost = 0 })
+    let made = more_made (names_made p.top.contents names) (state_made (frame ∷ stack_of p)) in
+    GoesOn (adds (paints p.top.contents scopes m) made)
     (record { top = frame; below = stack_of p; at = m.end })
 
 -- a rule matches: its names are pushed for the match alone
 abbrev pub matched : Place → Match → List (List ℕ) → Turn
 matched p m names =
-    GoesOn (record { pieces = paints p.top.contents (p.top.contents ++ names) m; made = names_made p.top.contents names; cost = 0 })
+    GoesOn (adds (paints p.top.contents (p.top.contents ++ names) m) (names_made p.top.contents names))
     (record { top = p.top; below = p.below; at = m.end })
 
 -- the search of a turn is paid first
@@ -123,11 +136,13 @@ module _ (g : Grammar) where
 
   -- one turn at a place
   abbrev pub turn : Place → Turn
-  turn p = paid (g.cost p.top (some_open p.below) p.at) (by_winner p (g.winner p.top (some_open p.below) p.at))
+  turn p =
+      let has_end = some_open p.below in
+      paid (g.cost p.top has_end p.at) (by_winner p (g.winner p.top has_end p.at))
 
   -- at most so many turns
   unfoldable pub runs : ℕ → Place → Outcome
-  runs zero p = record { part = record { pieces = []; made = none_made; cost = 0 }; stack = stack_of p }
+  runs zero p = record { part = adds [] none_made; stack = stack_of p }
   runs (suc n) p = after (runs n) (turn p)
 
   -- the line from a place on: turn after turn until it stops (`Laws` says so without a number of turns)

@@ -23,8 +23,8 @@ unfoldable pub runs_from : (ℕ → ℕ) → Option ℕ → ℕ → ℕ → List
 runs_from meta before at zero = []
 runs_from meta before at (suc n) = starts before at (meta at) ++ runs_from meta (Some (meta at)) (at + 1) n
 
--- the tokens of a line of this many characters, by the metadata of each; an empty line has one, with the metadata of
--- the state behind it
+-- the tokens of a line of this many characters, by the metadata of each; an empty line has one, with
+-- the metadata of the state behind it
 abbrev pub runs_of : (ℕ → ℕ) → ℕ → ℕ → List Token
 runs_of meta end_meta zero = record { start = 0; meta = end_meta } ∷ []
 runs_of meta end_meta (suc n) = runs_from meta None 0 (suc n)

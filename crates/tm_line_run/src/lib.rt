@@ -18,7 +18,7 @@
 #![tactic(auto)]
 
 ghost use Rattle.std.specs.Prelude.{◌≡◌, ◌∷◌, [], false};
-ghost use Rattle.tm_line_run.specs.Example.{example, start, root, keyword, group, depth, example_tokens};
+ghost use Rattle.tm_line_run.specs.Example.{example, start, root, keyword, group, depth, token};
 ghost use Rattle.tm_line_run.specs.LineRun.{Grammar, line_run, opened};
 ghost use Rattle.tm_line_run.specs.Laws.{FindsForward, IsLineRun};
 ghost use Rattle.tm_line_run.specs.Painted.{runs_of, scopes_at};
@@ -35,8 +35,10 @@ pub fn one_outcome()
 /// The line at the head of this module, computed by the definitions: its tokens, where the metadata
 /// of scopes is how many they are, its open rules, and the steps of its three searches.
 pub fn worked_line()
-    ensures tokens { runs_of (λ o. depth (scopes_at (line_run example start).part.pieces o)) 0 6 ≡ example_tokens }
-    ensures stack { (line_run example start).stack ≡ opened 2 (root ∷ group ∷ []) false ∷ opened 0 (root ∷ []) false ∷ [] }
+    ensures tokens { let pieces = (line_run example start).part.pieces in
+        runs_of (λ o. depth (scopes_at pieces o)) 0 6 ≡ token 0 2 ∷ token 3 1 ∷ token 4 2 ∷ [] }
+    ensures stack { (line_run example start).stack ≡
+        opened 2 (root ∷ group ∷ []) false ∷ opened 0 (root ∷ []) false ∷ [] }
     ensures texts { (line_run example start).part.made.texts ≡ keyword ∷ group ∷ [] }
     ensures cost { (line_run example start).part.cost ≡ 30 }
 {}

@@ -1,5 +1,5 @@
 -- Worked lines: a grammar of four rules, three lines, and what they give.
-use Rattle.std.specs.Prelude.{ℕ, List, [], ◌∷◌, Some, false, codes}
+use Rattle.std.specs.Prelude.{ℕ, List, [], ◌∷◌, ◌++◌, Some, false, codes}
 use Rattle.tm_defs.specs.declared.frames.FrameData.{FrameData}
 use Rattle.tm_defs.specs.declared.tokens.Token.{Token}
 use Rattle.tm_line_run.specs.LineRun.{opened}
@@ -20,7 +20,7 @@ abbrev pub in_root : List FrameData
 in_root = opened 0 (codes "source.t" ∷ []) false ∷ []
 
 abbrev pub in_comment : List FrameData
-in_comment = opened 0 (codes "source.t" ∷ []) false ∷ opened 3 (codes "source.t" ∷ codes "comment.t" ∷ []) false ∷ []
+in_comment = in_root ++ opened 3 (codes "source.t" ∷ codes "comment.t" ∷ []) false ∷ []
 
 abbrev pub plain_from : ℕ → Token
 plain_from start = record { start = start; meta = 0x02008401 }

@@ -37,7 +37,8 @@ names_of None = []
 abbrev pub literal_grammar : List Rule → List ℕ → Grammar
 literal_grammar rules text = record {
   end = length text;
-  winner = λ frame has_end at. of_found rules (earliest_winner text at (flattened_candidates rules has_end frame.rule));
+  winner = λ frame has_end at.
+      of_found rules (earliest_winner text at (flattened_candidates rules has_end frame.rule));
   cost = λ frame has_end at. 0;
   names = λ rule m. names_of (slice_get rules rule);
 }

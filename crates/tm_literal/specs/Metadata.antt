@@ -14,11 +14,15 @@ abbrev pub is_some_word_character : Option ℕ → Bool
 is_some_word_character None = false
 is_some_word_character (Some c) = is_word_character c
 
+-- a word character stands at a place of the scope
+abbrev pub in_word : List ℕ → ℕ → Bool
+in_word scope place = is_some_word_character (slice_get scope place)
+
 -- the word stands at a place of the scope, and no word character is directly before or after it
 abbrev pub stands_alone : List ℕ → List ℕ → ℕ → Bool
 stands_alone word scope place =
-    (starts_with nat_eq (drop place scope) word && not (not (place == 0) && is_some_word_character (slice_get scope (place - 1))))
-    && not (is_some_word_character (slice_get scope (place + length word)))
+    (starts_with nat_eq (drop place scope) word && not (not (place == 0) && in_word scope (place - 1)))
+    && not (in_word scope (place + length word))
 
 -- the token type of the word that stands alone at a place, if one of the four does
 abbrev pub type_at : List ℕ → ℕ → Option TokenType
@@ -49,8 +53,8 @@ type_bits Comment = 1
 type_bits Text = 2
 type_bits Regex = 3
 
--- language 1 from bit 0 on, the token type from bit 8, balanced brackets at bit 10, font style 0 from bit 11, foreground 1
--- from bit 15, background 2 from bit 24
+-- language 1 from bit 0 on, the token type from bit 8, balanced brackets at bit 10, font style 0 from
+-- bit 11, foreground 1 from bit 15, background 2 from bit 24
 abbrev pub packed : TokenType → ℕ
 packed type = 1 + 2 ^ 8 * type_bits type + 2 ^ 10 * 1 + 2 ^ 11 * 0 + 2 ^ 15 * 1 + 2 ^ 24 * 2
 

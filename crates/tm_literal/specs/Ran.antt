@@ -23,7 +23,8 @@ pub record Ran (o : Outcome) (t u : Tables) (old new : List Painted) (result : R
   pub full : IfErr result (IsFullForSome o.part.made u)
 
 -- the whole, with its tokens
-pub record Tokenizes (s : Setting) (start : List FrameData) (line : List ℕ) (t u : Tables) (result : Result LineOut TableFault) : Type 0 where
+pub record Tokenizes (s : Setting) (start : List FrameData) (line : List ℕ) (t u : Tables)
+    (result : Result LineOut TableFault) : Type 0 where
   pub tokens : IfOk result (λ out. out.tokens ≡ (literal_tokenized s start line).tokens)
   pub end : IfOk result (λ out. slice_get u.states out.end.0 ≡ Some ((literal_tokenized s start line).end))
   pub grows : GrowsWithin (literal_made s start line) t u

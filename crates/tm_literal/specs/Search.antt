@@ -13,7 +13,8 @@ pub record Candidate : Type 0 where
 -- the least place from here on at which the pattern stands; rest is the text from here on
 abbrev pub place_from : List ℕ → ℕ → List ℕ → Option ℕ
 place_from pattern here [] = None
-place_from pattern here (c ∷ rest) = if starts_with nat_eq (c ∷ rest) pattern then Some here else place_from pattern (here + 1) rest
+place_from pattern here (c ∷ rest) =
+    if starts_with nat_eq (c ∷ rest) pattern then Some here else place_from pattern (here + 1) rest
 
 abbrev pub found_at : Candidate → Option ℕ → Option Found
 found_at c None = None
@@ -34,8 +35,8 @@ abbrev pub earliest_winner : List ℕ → ℕ → List Candidate → Option Foun
 earliest_winner text at [] = None
 earliest_winner text at (c ∷ cs) = earlier (found text at c) (earliest_winner text at cs)
 
--- what a rule of this number contributes to a list: its own pattern. A list inside a list contributes nothing here, nor
--- does a number without a rule
+-- what a rule of this number contributes to a list: its own pattern. A list inside a list contributes
+-- nothing here, nor does a number without a rule
 abbrev pub contributed : ℕ → Option Rule → List Candidate
 contributed n (Some (Match pattern name)) = record { rule = Some n; pattern = pattern } ∷ []
 contributed n (Some (BeginEnd begin end name patterns)) = record { rule = Some n; pattern = begin } ∷ []
@@ -52,7 +53,8 @@ end_candidate false end = []
 
 abbrev pub candidates_in : List Rule → Bool → Option Rule → List Candidate
 candidates_in rules has_end (Some (Match pattern name)) = []
-candidates_in rules has_end (Some (BeginEnd begin end name patterns)) = end_candidate has_end end ++ listed_candidates rules patterns
+candidates_in rules has_end (Some (BeginEnd begin end name patterns)) =
+    end_candidate has_end end ++ listed_candidates rules patterns
 candidates_in rules has_end (Some (Only patterns)) = listed_candidates rules patterns
 candidates_in rules has_end None = []
 

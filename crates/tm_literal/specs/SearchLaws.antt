@@ -12,7 +12,8 @@ StandsAt pattern text place = (place < length text) × (take (length pattern) (d
 abbrev pub IsLeastPlace : List ℕ → List ℕ → ℕ → Type 0
 IsLeastPlace pattern text from = MatchOption (place_from pattern from (drop from text))
     ((place : ℕ) → from ≤ place → ¬ StandsAt pattern text place)
-    (λ place. (from ≤ place) × StandsAt pattern text place × ((before : ℕ) → from ≤ before → before < place → ¬ StandsAt pattern text before))
+    (λ place. (from ≤ place) × StandsAt pattern text place
+    × ((before : ℕ) → from ≤ before → before < place → ¬ StandsAt pattern text before))
 
 -- candidate i of the list wins: none is found earlier, and none before it in the list at the same start
 pub record IsWinner (text : List ℕ) (at : ℕ) (cs : List Candidate) (f : Found) : Type 0 where
@@ -20,8 +21,10 @@ pub record IsWinner (text : List ℕ) (at : ℕ) (cs : List Candidate) (f : Foun
   pub candidate : Candidate
   pub listed : slice_get cs index ≡ Some candidate
   pub is : found text at candidate ≡ Some f
-  pub earliest : (j : ℕ) (c : Candidate) (other : Found) → slice_get cs j ≡ Some c → found text at c ≡ Some other → f.start ≤ other.start
-  pub first : (j : ℕ) (c : Candidate) (other : Found) → j < index → slice_get cs j ≡ Some c → found text at c ≡ Some other → f.start < other.start
+  pub earliest : (j : ℕ) (c : Candidate) (other : Found) →
+      slice_get cs j ≡ Some c → found text at c ≡ Some other → f.start ≤ other.start
+  pub first : (j : ℕ) (c : Candidate) (other : Found) → j < index →
+      slice_get cs j ≡ Some c → found text at c ≡ Some other → f.start < other.start
 
 -- with no winner none of the list is found
 abbrev pub IsEarliest : List ℕ → ℕ → List Candidate → Type 0
@@ -33,4 +36,5 @@ IsEarliest text at cs = MatchOption (earliest_winner text at cs)
 abbrev pub IsLeftmost : List ℕ → Type 0
 IsLeftmost scope = MatchOption (decided_type scope)
     ((place : ℕ) → place < length scope → type_at scope place ≡ None)
-    (λ type. (place : ℕ) × (place < length scope) × (type_at scope place ≡ Some type) × ((before : ℕ) → before < place → type_at scope before ≡ None))
+    (λ type. (place : ℕ) × (place < length scope) × (type_at scope place ≡ Some type)
+    × ((before : ℕ) → before < place → type_at scope before ≡ None))

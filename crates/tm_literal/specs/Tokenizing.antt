@@ -20,12 +20,14 @@ start_state scope [] = opened 0 (scope ∷ []) false ∷ []
 start_state scope (f ∷ fs) = f ∷ fs
 
 abbrev pub start_made : List ℕ → List FrameData → TableEntries
-start_made scope [] = more_made (names_made [] (scope ∷ [])) (only_state (opened 0 (scope ∷ []) false ∷ []))
+start_made scope [] = more_made (names_made [] (scope ∷ [])) (only_state (start_state scope []))
 start_made scope (f ∷ fs) = none_made
 
 -- the line with its line break, from its start on
 abbrev pub outcome_of : Setting → List FrameData → List ℕ → Outcome
-outcome_of s start line = line_run (literal_grammar s.rules (line ++ 10 ∷ [])) (place_of (reverse (start_state s.scope start)) 0)
+outcome_of s start line =
+    let text = line ++ 10 ∷ [] in
+    line_run (literal_grammar s.rules text) (place_of (reverse (start_state s.scope start)) 0)
 
 -- the content scopes of the innermost of open rules
 abbrev pub top_contents : List FrameData → List (List ℕ)
@@ -35,7 +37,8 @@ top_contents (f ∷ fs) = f.contents
 -- the maximal runs of equal metadata over the line's own characters, and the open rules behind it
 abbrev pub tokenized_by : Outcome → ℕ → Tokenized
 tokenized_by o len = record {
-  tokens = runs_of (λ offset. metadata_of (scopes_at o.part.pieces offset)) (metadata_of (top_contents o.stack)) len;
+  tokens =
+      runs_of (λ offset. metadata_of (scopes_at o.part.pieces offset)) (metadata_of (top_contents o.stack)) len;
   end = reverse o.stack;
 }
 

@@ -12,21 +12,32 @@
 //! ```
 #![tactic(auto)]
 
-ghost use Rattle.std.specs.Prelude.{◌≡◌, ◌∷◌, [], ℕ, List, codes};
+ghost use Rattle.std.specs.Prelude.{◌≡◌, ◌∷◌, [], ℕ, List, IsTrue, codes};
+ghost use Rattle.std.specs.List.{list_all};
+ghost use Rattle.tm_line_run.specs.Laws.{IsLineRun};
+ghost use Rattle.tm_literal.specs.declared.rules.Rule.{Rule};
 ghost use Rattle.tm_literal.specs.Example.{example, in_root, in_comment, plain_from, comment_from};
+ghost use Rattle.tm_literal.specs.Forward.{has_text};
+ghost use Rattle.tm_literal.specs.Grammar.{literal_grammar};
 ghost use Rattle.tm_literal.specs.Search.{Candidate};
 ghost use Rattle.tm_literal.specs.SearchLaws.{IsLeastPlace, IsEarliest, IsLeftmost};
 ghost use Rattle.tm_literal.specs.Tokenizing.{literal_tokenized};
 
 pub mod metadata;
 pub mod rules;
-pub mod run;
-pub mod search;
-pub mod tables;
+mod run;
+mod search;
+mod tables;
 #[cfg(test)]
 mod tests;
 pub mod tokenizer;
-pub mod turn;
+mod turn;
+
+/// Under rules without an empty pattern a line has exactly one outcome.
+pub fn one_outcome()
+    ensures { (rules : List Rule) (text : List ℕ) → IsTrue (list_all has_text rules) →
+        IsLineRun (literal_grammar rules text) }
+{}
 
 /// A pattern is found at the least place at which it stands.
 pub fn least_place()
@@ -35,7 +46,7 @@ pub fn least_place()
 
 /// The winner is found earliest of its candidates, and is the first in the list of those found there.
 pub fn earliest_candidate()
-    ensures { (text : List ℕ) (at : ℕ) (candidates : List Candidate) → IsEarliest text at candidates }
+    ensures { (text : List ℕ) (at : ℕ) (cs : List Candidate) → IsEarliest text at cs }
 {}
 
 /// The leftmost word decides a scope's token type.
@@ -46,10 +57,12 @@ pub fn leftmost_word()
 /// Three lines by the rules at the head of this module and `x` as comment, computed by the
 /// definitions: one from the opening state, one that leaves a comment open, and the one behind it.
 pub fn worked_lines()
-    ensures first { (literal_tokenized example [] (codes "let x let")).tokens ≡ plain_from 0 ∷ comment_from 4 ∷ plain_from 5 ∷ [] }
+    ensures first { (literal_tokenized example [] (codes "let x let")).tokens ≡
+        plain_from 0 ∷ comment_from 4 ∷ plain_from 5 ∷ [] }
     ensures first_end { (literal_tokenized example [] (codes "let x let")).end ≡ in_root }
     ensures opens { (literal_tokenized example [] (codes "q")).tokens ≡ comment_from 0 ∷ [] }
     ensures opens_end { (literal_tokenized example [] (codes "q")).end ≡ in_comment }
-    ensures goes_on { (literal_tokenized example in_comment (codes "let p let")).tokens ≡ comment_from 0 ∷ plain_from 5 ∷ [] }
+    ensures goes_on { (literal_tokenized example in_comment (codes "let p let")).tokens ≡
+        comment_from 0 ∷ plain_from 5 ∷ [] }
     ensures goes_on_end { (literal_tokenized example in_comment (codes "let p let")).end ≡ in_root }
 {}

@@ -3,9 +3,9 @@
 //! Colours and fonts come with themes, and this tokenizer has none: every token has language 1, font
 //! style 0, foreground 1 and background 2. The metadata is computed when a piece is painted, so that
 //! nothing beside the table grows with it.
-ghost use Rattle.std.specs.Prelude.{◌≡◌, ◌<◌, ◌≤◌, ◌++◌, ◌∷◌, [], length, slice_get, IfOk};
+ghost use Rattle.std.specs.Prelude.{◌≡◌, ◌<◌, ◌≤◌, ◌++◌, ◌∷◌, [], length, IfOk};
 ghost use Rattle.tm_defs.specs.Tables.{path_at};
-ghost use Rattle.tm_literal.specs.Metadata.{is_word_character, is_some_word_character, stands_alone, type_at, decided_type, packed, metadata_of};
+ghost use Rattle.tm_literal.specs.Metadata.{in_word, stands_alone, type_at, decided_type, packed, metadata_of};
 
 use std::alloc::AllocError;
 use tm_defs::frames::ScopeList;
@@ -34,8 +34,8 @@ const EMBEDDED: [char; 13] = [
 ];
 
 /// Whether a word's character stands at a place of the scope.
-fn in_word(scope: &[char], place: usize) -> bool
-    ensures { result ≡ is_some_word_character (slice_get scope.now place) }
+fn word_at(scope: &[char], place: usize) -> bool
+    ensures { result ≡ in_word scope.now place }
 {
     match scope.get(place) {
         Some(c) => c.is_ascii_alphanumeric() || *c == '_',
@@ -51,10 +51,10 @@ fn alone(word: &[char], scope: &[char], place: usize) -> bool
     if !scope[place..].starts_with(word) {
         return false;
     }
-    if place != 0 && in_word(scope, place - 1) {
+    if place != 0 && word_at(scope, place - 1) {
         return false;
     }
-    !in_word(scope, place + word.len())
+    !word_at(scope, place + word.len())
 }
 
 /// The token type of the word that stands alone at a place.
@@ -132,7 +132,8 @@ pub fn paint<S: States>(
     end: usize,
 ) -> Result<(), AllocError>
     requires { scopes.0 < length (S.tables table.now).paths }
-    ensures { IfOk result (λ _. pieces.new.items ≡ pieces.old.items ++ record { end = end; meta = metadata_of (path_at (S.tables table.now) scopes) } ∷ []) }
+    ensures { let meta = metadata_of (path_at (S.tables table.now) scopes) in
+        IfOk result (λ _. pieces.new.items ≡ pieces.old.items ++ record { end = end; meta = meta } ∷ []) }
 {
     let meta = metadata(table, scopes);
     pieces.push(Painted { end, meta })?;

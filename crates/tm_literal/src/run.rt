@@ -26,7 +26,8 @@ pub fn run<S: States>(
     requires some { IsTrue (some_open (reverse (state_at (S.tables table.old) start))) }
     requires forward { FindsForward (literal_grammar rules.now text.now) }
     ensures { let p = place_of (reverse (state_at (S.tables table.old) start)) 0 in
-        Ran (line_run (literal_grammar rules.now text.now) p) (S.tables table.old) (S.tables table.new) pieces.old.items pieces.new.items result }
+        Ran (line_run (literal_grammar rules.now text.now) p)
+        (S.tables table.old) (S.tables table.new) pieces.old.items pieces.new.items result }
 {
     let mut state = start;
     let mut at = 0;

@@ -81,7 +81,8 @@ fn earliest_start(
     patterns: &Numbers,
 ) -> Option<Found>
     requires { at ≤ length text.now }
-    ensures { result ≡ earlier best (earliest_winner text.now at (listed_candidates rules.now patterns.now)) }
+    ensures { result ≡
+        earlier best (earliest_winner text.now at (listed_candidates rules.now patterns.now)) }
 {
     let mut first = best;
     let numbers = patterns.as_slice();

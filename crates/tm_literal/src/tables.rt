@@ -15,9 +15,15 @@ pub fn named_list<S: States>(
     name: &Option<Name>,
 ) -> Result<ScopeList, TableFault>
     requires { list.0 < length (S.tables table.old).paths }
-    ensures ok { let names = option_to_list name.now in IfOk result (λ id. slice_get (S.tables table.new).paths id.0 ≡ Some (path_at (S.tables table.old) list ++ names)) }
-    ensures grows { let names = option_to_list name.now in GrowsWithin (names_made (path_at (S.tables table.old) list) names) (S.tables table.old) (S.tables table.new) }
-    ensures full { let names = option_to_list name.now in IfErr result (IsFullForSome (names_made (path_at (S.tables table.old) list) names) (S.tables table.new)) }
+    ensures ok { let names = option_to_list name.now in
+        IfOk result (λ id. slice_get (S.tables table.new).paths id.0 ≡
+        Some (path_at (S.tables table.old) list ++ names)) }
+    ensures grows { let names = option_to_list name.now in
+        GrowsWithin (names_made (path_at (S.tables table.old) list) names)
+        (S.tables table.old) (S.tables table.new) }
+    ensures full { let names = option_to_list name.now in
+        IfErr result (IsFullForSome (names_made (path_at (S.tables table.old) list) names)
+        (S.tables table.new)) }
 {
     match name {
         Some(name) => longer_list(table, list, name),
@@ -32,9 +38,13 @@ pub fn longer_list<S: States>(
     name: &Name,
 ) -> Result<ScopeList, TableFault>
     requires { list.0 < length (S.tables table.old).paths }
-    ensures ok { IfOk result (λ id. slice_get (S.tables table.new).paths id.0 ≡ Some (path_at (S.tables table.old) list ++ name.now ∷ [])) }
-    ensures grows { GrowsWithin (names_made (path_at (S.tables table.old) list) (name.now ∷ [])) (S.tables table.old) (S.tables table.new) }
-    ensures full { IfErr result (IsFullForSome (names_made (path_at (S.tables table.old) list) (name.now ∷ [])) (S.tables table.new)) }
+    ensures ok { IfOk result (λ id. slice_get (S.tables table.new).paths id.0 ≡
+        Some (path_at (S.tables table.old) list ++ name.now ∷ [])) }
+    ensures grows { GrowsWithin (names_made (path_at (S.tables table.old) list) (name.now ∷ []))
+        (S.tables table.old) (S.tables table.new) }
+    ensures full { IfErr result
+        (IsFullForSome (names_made (path_at (S.tables table.old) list) (name.now ∷ []))
+        (S.tables table.new)) }
 {
     match table.text(name) {
         Ok(text) => table.push(list, text),
@@ -52,9 +62,15 @@ pub fn push_frame<S: States>(
 ) -> Result<StateId, TableFault>
     requires state { state.0 < length (S.tables table.old).states }
     requires path { path.0 < length (S.tables table.old).paths }
-    ensures ok { let frame = opened rule (path_at (S.tables table.old) path) at_eol in IfOk result (λ id. slice_get (S.tables table.new).states id.0 ≡ Some (state_at (S.tables table.old) state ++ frame ∷ [])) }
-    ensures grows { let frame = opened rule (path_at (S.tables table.old) path) at_eol in GrowsWithin (only_state (state_at (S.tables table.old) state ++ frame ∷ [])) (S.tables table.old) (S.tables table.new) }
-    ensures full { let frame = opened rule (path_at (S.tables table.old) path) at_eol in IfErr result (IsFullForSome (only_state (state_at (S.tables table.old) state ++ frame ∷ [])) (S.tables table.new)) }
+    ensures ok { let frame = opened rule (path_at (S.tables table.old) path) at_eol in
+        IfOk result (λ id. slice_get (S.tables table.new).states id.0 ≡
+        Some (state_at (S.tables table.old) state ++ frame ∷ [])) }
+    ensures grows { let frame = opened rule (path_at (S.tables table.old) path) at_eol in
+        GrowsWithin (only_state (state_at (S.tables table.old) state ++ frame ∷ []))
+        (S.tables table.old) (S.tables table.new) }
+    ensures full { let frame = opened rule (path_at (S.tables table.old) path) at_eol in
+        IfErr result (IsFullForSome (only_state (state_at (S.tables table.old) state ++ frame ∷ []))
+        (S.tables table.new)) }
 {
     let frame = Frame {
         rule,

@@ -73,9 +73,13 @@ fn with_break(alloc: Global, line: &Line) -> Result<Vec<char>, AllocError>
 /// The state with which a line begins: at the opening state that of the root.
 fn start_of<S: States>(table: &mut S, scope: &Name, start: StateId) -> Result<StateId, TableFault>
     requires { start.0 < length (S.tables table.old).states }
-    ensures ok { let state = state_at (S.tables table.old) start in IfOk result (λ id. slice_get (S.tables table.new).states id.0 ≡ Some (start_state scope.now state)) }
-    ensures grows { let state = state_at (S.tables table.old) start in GrowsWithin (start_made scope.now state) (S.tables table.old) (S.tables table.new) }
-    ensures full { let state = state_at (S.tables table.old) start in IfErr result (IsFullForSome (start_made scope.now state) (S.tables table.new)) }
+    ensures ok { let state = state_at (S.tables table.old) start in
+        IfOk result (λ id. slice_get (S.tables table.new).states id.0 ≡
+        Some (start_state scope.now state)) }
+    ensures grows { let state = state_at (S.tables table.old) start in
+        GrowsWithin (start_made scope.now state) (S.tables table.old) (S.tables table.new) }
+    ensures full { let state = state_at (S.tables table.old) start in
+        IfErr result (IsFullForSome (start_made scope.now state) (S.tables table.new)) }
 {
     table.known();
     if start.0 != 0 {
@@ -109,7 +113,8 @@ fn finished<S: States>(
     requires end { end.0 < length (S.tables table.now).states }
     requires reach { len ≤ furthest pieces.now }
     requires short { len < 2 ^ 31 }
-    ensures tokens { let contents = top_contents (reverse (state_at (S.tables table.now) end)) in IfOk result (λ out. out.tokens ≡ runs_of (meta_at pieces.now) (metadata_of contents) len) }
+    ensures tokens { let contents = top_contents (reverse (state_at (S.tables table.now) end)) in
+        IfOk result (λ out. out.tokens ≡ runs_of (meta_at pieces.now) (metadata_of contents) len) }
     ensures end { IfOk result (λ out. out.end ≡ end) }
     ensures full { IfErr result (λ cause. cause ≡ fault.OutOfMemory) }
 {
@@ -132,7 +137,8 @@ fn tokenized_line<S: States>(
     requires start { start.0 < length (S.tables table.old).states }
     requires short { length line.now < 2 ^ 31 - 1 }
     requires texts { IsTrue (list_all has_text rules.now) }
-    ensures { Tokenizes (setting_of scope.now rules.now) (state_at (S.tables table.old) start) line.now (S.tables table.old) (S.tables table.new) result }
+    ensures { Tokenizes (setting_of scope.now rules.now) (state_at (S.tables table.old) start) line.now
+        (S.tables table.old) (S.tables table.new) result }
 {
     let Ok(text) = with_break(alloc, line) else {
         return Err(TableFault::OutOfMemory);

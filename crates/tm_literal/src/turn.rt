@@ -49,7 +49,8 @@ fn paint_both<S: States>(
 ) -> Result<(), TableFault>
     requires outer { outer.0 < length (S.tables table.now).paths }
     requires inner { inner.0 < length (S.tables table.now).paths }
-    ensures ok { let paint = paints (path_at (S.tables table.now) outer) (path_at (S.tables table.now) inner) (match_of found) in
+    ensures ok { let below = path_at (S.tables table.now) outer in
+        let paint = paints below (path_at (S.tables table.now) inner) (match_of found) in
         OnOk result (pieces.new.items ≡ pieces.old.items ++ painted metadata_of paint) }
     ensures err { IfErr result (λ cause. cause ≡ fault.OutOfMemory) }
 {
@@ -71,11 +72,19 @@ fn paint_named<S: States>(
     found: Found,
 ) -> Result<ScopeList, TableFault>
     requires { outer.0 < length (S.tables table.old).paths }
-    ensures ok { let names = option_to_list name.now in IfOk result (λ id. slice_get (S.tables table.new).paths id.0 ≡ Some (path_at (S.tables table.old) outer ++ names)) }
-    ensures pieces { let path = path_at (S.tables table.old) outer in let names = option_to_list name.now in
-        OnOk result (pieces.new.items ≡ pieces.old.items ++ painted metadata_of (paints path (path ++ names) (match_of found))) }
-    ensures grows { let names = option_to_list name.now in GrowsWithin (names_made (path_at (S.tables table.old) outer) names) (S.tables table.old) (S.tables table.new) }
-    ensures full { let names = option_to_list name.now in IfErr result (IsFullForSome (names_made (path_at (S.tables table.old) outer) names) (S.tables table.new)) }
+    ensures ok { let names = option_to_list name.now in
+        IfOk result (λ id. slice_get (S.tables table.new).paths id.0 ≡
+        Some (path_at (S.tables table.old) outer ++ names)) }
+    ensures pieces { let path = path_at (S.tables table.old) outer in
+        let names = option_to_list name.now in
+        OnOk result (pieces.new.items ≡
+        pieces.old.items ++ painted metadata_of (paints path (path ++ names) (match_of found))) }
+    ensures grows { let names = option_to_list name.now in
+        GrowsWithin (names_made (path_at (S.tables table.old) outer) names)
+        (S.tables table.old) (S.tables table.new) }
+    ensures full { let names = option_to_list name.now in
+        IfErr result (IsFullForSome (names_made (path_at (S.tables table.old) outer) names)
+        (S.tables table.new)) }
 {
     match named_list(table, outer, name) {
         Ok(inner) => {
@@ -101,14 +110,23 @@ fn begin<S: States>(
 ) -> Result<StateId, TableFault>
     requires state { state.0 < length (S.tables table.old).states }
     requires outer { outer.0 < length (S.tables table.old).paths }
-    ensures ok { let frame = opened rule (path_at (S.tables table.old) outer ++ option_to_list name.now) (found.end == len) in
-        IfOk result (λ id. slice_get (S.tables table.new).states id.0 ≡ Some (state_at (S.tables table.old) state ++ frame ∷ [])) }
-    ensures pieces { let path = path_at (S.tables table.old) outer in let names = option_to_list name.now in
-        OnOk result (pieces.new.items ≡ pieces.old.items ++ painted metadata_of (paints path (path ++ names) (match_of found))) }
-    ensures grows { let names = option_to_list name.now in let frame = opened rule (path_at (S.tables table.old) outer ++ names) (found.end == len) in
-        GrowsWithin (more_made (names_made (path_at (S.tables table.old) outer) names) (only_state (state_at (S.tables table.old) state ++ frame ∷ []))) (S.tables table.old) (S.tables table.new) }
-    ensures full { let names = option_to_list name.now in let frame = opened rule (path_at (S.tables table.old) outer ++ names) (found.end == len) in
-        IfErr result (IsFullForSome (more_made (names_made (path_at (S.tables table.old) outer) names) (only_state (state_at (S.tables table.old) state ++ frame ∷ []))) (S.tables table.new)) }
+    ensures ok { let names = option_to_list name.now in
+        let frame = opened rule (path_at (S.tables table.old) outer ++ names) (found.end == len) in
+        IfOk result (λ id. slice_get (S.tables table.new).states id.0 ≡
+        Some (state_at (S.tables table.old) state ++ frame ∷ [])) }
+    ensures pieces { let path = path_at (S.tables table.old) outer in
+        let names = option_to_list name.now in
+        OnOk result (pieces.new.items ≡
+        pieces.old.items ++ painted metadata_of (paints path (path ++ names) (match_of found))) }
+    ensures grows { let names = option_to_list name.now in
+        let frame = opened rule (path_at (S.tables table.old) outer ++ names) (found.end == len) in
+        GrowsWithin (more_made (names_made (path_at (S.tables table.old) outer) names)
+        (only_state (state_at (S.tables table.old) state ++ frame ∷ [])))
+        (S.tables table.old) (S.tables table.new) }
+    ensures full { let names = option_to_list name.now in
+        let frame = opened rule (path_at (S.tables table.old) outer ++ names) (found.end == len) in
+        IfErr result (IsFullForSome (more_made (names_made (path_at (S.tables table.old) outer) names)
+        (only_state (state_at (S.tables table.old) state ++ frame ∷ []))) (S.tables table.new)) }
 {
     match paint_named(table, pieces, outer, name, found) {
         Ok(path) => push_frame(table, state, path, rule, found.end == len),
@@ -124,7 +142,8 @@ fn rest<S: States>(
     len: usize,
 ) -> Result<Next, TableFault>
     requires { IsHere (S.tables table.now) here }
-    ensures { let t = S.tables table.now in Does (rests len (place_here t here)) t t pieces.old.items pieces.new.items result }
+    ensures { let t = S.tables table.now in
+        Does (rests len (place_here t here)) t t pieces.old.items pieces.new.items result }
 {
     let Ok(()) = paint(table, pieces, here.frame.contents, len) else {
         return Err(TableFault::OutOfMemory);
@@ -142,7 +161,9 @@ fn ends<S: States>(
     len: usize,
 ) -> Result<Next, TableFault>
     requires { IsHere (S.tables table.now) here }
-    ensures { let t = S.tables table.now in let p = place_here t here in Does (ended len p (match_of found) p.below) t t pieces.old.items pieces.new.items result }
+    ensures { let t = S.tables table.now in
+        let p = place_here t here in
+        Does (ended len p (match_of found) p.below) t t pieces.old.items pieces.new.items result }
 {
     if !has_frames(table, here.below) {
         return rest(table, pieces, here, len);
@@ -163,7 +184,8 @@ fn matches<S: States>(
 ) -> Result<Next, TableFault>
     requires { IsHere (S.tables table.old) here }
     ensures { let p = place_here (S.tables table.old) here in
-        Does (matched p (match_of found) (option_to_list name.now)) (S.tables table.old) (S.tables table.new) pieces.old.items pieces.new.items result }
+        Does (matched p (match_of found) (option_to_list name.now))
+        (S.tables table.old) (S.tables table.new) pieces.old.items pieces.new.items result }
 {
     match paint_named(table, pieces, here.frame.contents, name, found) {
         Ok(_) => Ok(Next::GoesOn(here.state, found.end)),
@@ -183,7 +205,8 @@ fn begins<S: States>(
 ) -> Result<Next, TableFault>
     requires { IsHere (S.tables table.old) here }
     ensures { let p = place_here (S.tables table.old) here in
-        Does (begun len p rule (match_of found) (option_to_list name.now)) (S.tables table.old) (S.tables table.new) pieces.old.items pieces.new.items result }
+        Does (begun len p rule (match_of found) (option_to_list name.now))
+        (S.tables table.old) (S.tables table.new) pieces.old.items pieces.new.items result }
 {
     match begin(
         table,
@@ -212,7 +235,8 @@ fn starts<S: States>(
 ) -> Result<Next, TableFault>
     requires { IsHere (S.tables table.old) here }
     ensures { let p = place_here (S.tables table.old) here in
-        Does (turn_of len p found n (slice_get rules.now n)) (S.tables table.old) (S.tables table.new) pieces.old.items pieces.new.items result }
+        Does (turn_of len p found n (slice_get rules.now n))
+        (S.tables table.old) (S.tables table.new) pieces.old.items pieces.new.items result }
 {
     match rule_at(rules, n) {
         Some(Rule::Match { pattern: _, name }) => matches(table, pieces, here, found, name),
@@ -251,7 +275,8 @@ pub fn turn<S: States>(
     requires some { IsTrue (some_open (reverse (state_at (S.tables table.old) state))) }
     requires within { at ≤ length text.now }
     ensures { let p = place_of (reverse (state_at (S.tables table.old) state)) at in
-        Does (turn_at (literal_grammar rules.now text.now) p) (S.tables table.old) (S.tables table.new) pieces.old.items pieces.new.items result }
+        Does (turn_at (literal_grammar rules.now text.now) p)
+        (S.tables table.old) (S.tables table.new) pieces.old.items pieces.new.items result }
 {
     let Some((frame, below)) = table.top(state) else {
         unreachable!();

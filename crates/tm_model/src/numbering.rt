@@ -58,7 +58,7 @@ impl Numbering {
     }
 }
 
-/// The place of a text.
+/// The place of a text, if it is there.
 fn find_text(texts: &[Name], text: &Name) -> Option<usize>
     ensures { MatchOption result (¬ Contains texts.now text.now) (λ i. slice_get texts.now i ≡ Some text.now) }
 {
@@ -70,7 +70,7 @@ fn find_text(texts: &[Name], text: &Name) -> Option<usize>
     None
 }
 
-/// The place of a link.
+/// The place of a link, if it is there.
 fn find_name(links: &[NameLink], link: NameLink) -> Option<usize>
     ensures { MatchOption result (¬ Contains links.now link) (λ i. slice_get links.now i ≡ Some link) }
 {
@@ -82,6 +82,7 @@ fn find_name(links: &[NameLink], link: NameLink) -> Option<usize>
     None
 }
 
+/// The place of a link, if it is there.
 fn find_frame(links: &[FrameLink], link: FrameLink) -> Option<usize>
     ensures { MatchOption result (¬ Contains links.now link) (λ i. slice_get links.now i ≡ Some link) }
 {
