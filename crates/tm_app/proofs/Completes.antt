@@ -1,12 +1,11 @@
 -- A good run is done.
-use Rattle.std.proofs.Common.{◌≡◌, ℕ, List, [], ◌∷◌, Option, Some, None, ap, ◌∙◌, sym, subst, refl}
-use Rattle.std.specs.Prelude.{codes, MatchOption}
+use Rattle.std.proofs.Common.{◌≡◌, ℕ, List, [], ◌∷◌, Option, Some, None, ap, ◌∙◌, sym, subst}
+use Rattle.std.specs.Prelude.{codes}
 use Rattle.tm_app.specs.declared.setup.Setup.{Setup}
-use Rattle.tm_app.specs.declared.status.What.{What}
 use Rattle.tm_app.specs.declared.status.What.TheVariants.{NotYet, BadPlace}
 use Rattle.tm_app.specs.declared.status.Status.{Status}
 use Rattle.tm_app.specs.declared.status.Status.TheVariants.{Ok, Usage, FileFault, Refused, SinkFault, OutOfMemory, TableFull}
-use Rattle.tm_app.specs.Told.{Told, HasAdded}
+use Rattle.tm_app.specs.Told.{Told}
 use Rattle.tm_literal.specs.Setting.{Setting}
 use Rattle.tm_forms.specs.Settings.{settings_in}
 use Rattle.tm_forms.specs.Grammar.{grammar_in}
@@ -14,7 +13,7 @@ use Rattle.tm_forms.specs.Script.{script_in}
 use Rattle.tm_forms.specs.Text.{text_in}
 use Rattle.tm_forms.specs.declared.script.Scripted.{Scripted}
 use Rattle.tm_app.specs.declared.play.Fault.TheVariants as fault
-use Rattle.tm_app.specs.Reading.{Names, IsCommand, Part, the_settings, the_grammar, the_text, the_script, IsOutside, IsReached, IsLoaded, NamesGrammar, GivesGrammar, GivesText}
+use Rattle.tm_app.specs.Reading.{Names, IsCommand, Part, the_settings, the_grammar, the_text, the_script, IsOutside, IsReached, IsLoaded, NamesGrammar, GivesGrammar}
 use Rattle.tm_app.specs.Outcome.{Outcome, SetupPlays, SetupStops}
 use Rattle.tm_app.specs.Complete.{Says, IsGood, Completes}
 

@@ -5,9 +5,8 @@ use Rattle.tm_literal.specs.Setting.{Setting}
 use Rattle.tm_literal.specs.Tokenizing.{literal_tokenized, literal_cost, literal_made}
 use Rattle.tm_app.specs.declared.setup.Setup.{Setup}
 use Rattle.tm_machine.specs.Changes.{lines_of}
-use Rattle.tm_machine.specs.Machine.{Rules, machine_of}
+use Rattle.tm_machine.specs.Machine.{machine_of}
 use Rattle.tm_machine.specs.Reach.{stand_in}
-use Rattle.tm_machine.specs.Settings.{rules_of}
 use Rattle.tm_model.specs.Held.{Held, new_model}
 use Rattle.tm_app.specs.declared.play.Fault.{Fault}
 use Rattle.tm_app.specs.Outcome.{LinesPlay, LinesStop, SetupPlays, SetupStops, literal_rules, default_budget}

@@ -1,7 +1,5 @@
 -- How a run ends.
-use Rattle.std.proofs.Common.{◌≡◌, ℕ, List, [], ◌∷◌, Option, sym, subst, inl, inr, refl, ◌∙◌, ap}
-use Rattle.std.specs.Prelude.{chars}
-use Rattle.tm_outside.specs.Causes.{Takes}
+use Rattle.std.proofs.Common.{ℕ, List, [], ◌∷◌, Option, sym, subst, inl, inr}
 use Rattle.tm_app.specs.declared.play.Fault.TheVariants as fault
 use Rattle.tm_app.specs.declared.status.What.{What}
 use Rattle.tm_app.specs.declared.status.What.TheVariants.{NotYet, BadPlace}
@@ -12,7 +10,7 @@ use Rattle.tm_app.specs.Reading.{Names, IsCommand, IsLoaded}
 use Rattle.tm_app.specs.declared.setup.Setup.{Setup}
 use Rattle.tm_machine.specs.Machine.{machine_of}
 use Rattle.tm_machine.specs.Changes.{lines_of}
-use Rattle.tm_app.specs.Outcome.{Outcome, StopsLoad, StopsSetup, SetupStops, literal_rules, IsBadPlace, IsScript, any_name}
+use Rattle.tm_app.specs.Outcome.{Outcome, StopsLoad, SetupStops, literal_rules, IsBadPlace}
 use Rattle.tm_app.proofs.PlayRuns.{some-now, all-now}
 
 module _ (words : List (List ℕ)) (tells : List ℕ → Option (List ℕ)) (failed failed_now : List (List ℕ)) (taken taken_now : Option (List ℕ)) (faults faults_now : ℕ) where

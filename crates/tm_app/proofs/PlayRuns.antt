@@ -1,6 +1,6 @@
 -- A run of steps, one step more, and how it stops.
-use Rattle.std.proofs.Common.{◌≡◌, ℕ, suc, add-one, ◌+◌, ◌<◌, ◌≤◌, List, [], ◌∷◌, ◌++◌, length, take, get_or, Option, Some, None, refl, ap, sym, ◌∙◌, append_assoc, subst, inl, inr, arith}
-use Rattle.std.specs.Prelude.{slice_get, Contains, Result, Ok, Err, IfErr, OnOk}
+use Rattle.std.proofs.Common.{◌≡◌, ℕ, ◌+◌, ◌<◌, ◌≤◌, List, [], ◌∷◌, ◌++◌, length, take, get_or, Option, Some, None, refl, ap, sym, ◌∙◌, append_assoc, subst, inl, inr, arith}
+use Rattle.std.specs.Prelude.{Contains, Result, Ok, Err, IfErr, OnOk}
 use Rattle.std.proofs.lemmas.List.{append-nil, take_more, take_all}
 use Rattle.std.proofs.lemmas.Option.{slice_get-get_or}
 use Rattle.tm_defs.specs.declared.events.Step.{Step}
@@ -11,12 +11,12 @@ use Rattle.tm_forms.specs.declared.script.Scripted.{Scripted}
 use Rattle.tm_machine.specs.Machine.{Rules, Machine, Answer, Edited, Lined, Steps}
 use Rattle.tm_machine.specs.Reach.{Stand, stand_in, stand_after, stands_of}
 use Rattle.tm_machine.proofs.ReachedTables.{reaches-more, stands-first, stands-later, stands-more}
-use Rattle.tm_outside.specs.Causes.{Takes, TakesFront, Rose}
+use Rattle.tm_outside.specs.Causes.{Takes, TakesFront}
 use Rattle.tm_outside.proofs.Taken.{takes-trans, takes-as}
 use Rattle.tm_app.specs.declared.play.Fault.{Fault}
 use Rattle.tm_app.specs.declared.play.Fault.TheVariants.{SinkFault, OutOfMemory, TableFull, BadPlace}
 use Rattle.tm_app.specs.Play.{Prints, Plays, step_of, machine_steps}
-use Rattle.tm_app.specs.Stops.{large_reach, IsWriteStop, IsBadEdit, WritesStep, StepStops, WritesSome, StopsBefore, PlayStops}
+use Rattle.tm_app.specs.Stops.{large_reach, IsWriteStop, WritesStep, StepStops, WritesSome, StopsBefore, PlayStops}
 
 -- what was taken, and then a front of the next piece
 pub front-after : (a b c : Option (List ℕ)) (x y z all : List ℕ) → x ++ (y ++ z) ≡ all → Takes a b x → TakesFront b c y → TakesFront a c all

@@ -1,11 +1,11 @@
 -- The lines of a show, one line more.
-use Rattle.std.proofs.Common.{◌≡◌, ℕ, suc, ◌+◌, ◌<◌, ◌≤◌, List, [], ◌∷◌, ◌++◌, drop, get_or, Option, Some, refl, ap, sym, ◌∙◌, append_assoc, add-one, drop-cons, arith, length}
+use Rattle.std.proofs.Common.{◌≡◌, ℕ, suc, ◌+◌, ◌≤◌, List, ◌∷◌, ◌++◌, drop, get_or, Option, Some, ap, sym, ◌∙◌, append_assoc, add-one, drop-cons, arith}
 use Rattle.std.specs.Prelude.{slice_get}
 use Rattle.std.proofs.lemmas.Option.{slice_get_within, get_or_from_slice_get}
 use Rattle.tm_defs.specs.declared.frames.FrameData.{FrameData}
 use Rattle.tm_machine.specs.declared.entries.Entry.{Entry}
 use Rattle.tm_machine.specs.Entries.{is_accurate}
-use Rattle.tm_outside.specs.Causes.{Takes, TakesFront, Rose}
+use Rattle.tm_outside.specs.Causes.{Takes, TakesFront}
 use Rattle.tm_app.specs.declared.play.Fault.{Fault}
 use Rattle.tm_app.specs.declared.play.Fault.TheVariants.{SinkFault, OutOfMemory, TableFull, BadPlace}
 use Rattle.tm_app.specs.Printed.{line_text, shown_from, shown}

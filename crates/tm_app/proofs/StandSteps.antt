@@ -1,8 +1,7 @@
 -- A step of the model is a step of each machine that it stands for.
 use Rattle.std.specs.Prelude.{Contains}
-use Rattle.std.proofs.Common.{◌≡◌, ℕ, suc, ◌<◌, arith, inl, inr, List, [], ◌∷◌, ◌++◌, map, replicate, length, zero, Option, Some, None, refl, ap, sym, ◌∙◌, subst, subst₂}
+use Rattle.std.proofs.Common.{◌≡◌, ℕ, suc, ◌<◌, arith, inl, inr, List, [], ◌∷◌, map, replicate, length, Some, None, refl, ap, sym, ◌∙◌, subst, subst₂}
 use Rattle.tm_defs.specs.declared.changes.Change.{Change}
-use Rattle.tm_defs.specs.declared.events.Step.{Step}
 use Rattle.tm_defs.specs.declared.events.Step.TheVariants as step
 use Rattle.tm_defs.specs.declared.events.Turn.{Turn}
 use Rattle.tm_defs.specs.declared.frames.FrameData.{FrameData}
@@ -14,7 +13,7 @@ use Rattle.tm_forms.specs.declared.script.Scripted.{Scripted}
 use Rattle.tm_machine.specs.declared.entries.Entry.{Entry}
 use Rattle.tm_machine.specs.Changes.{lines_changed, effect_of}
 use Rattle.tm_machine.specs.Entries.{blank, replaced, AreAccurate}
-use Rattle.tm_machine.specs.Machine.{Rules, Machine, Edited, Lined, Steps, Turns, IsAccurate, edited, machine_of}
+use Rattle.tm_machine.specs.Machine.{Rules, Machine, Edited, Lined, Turns, edited, machine_of}
 use Rattle.tm_machine.specs.Places.{IsIn, bad_place}
 use Rattle.tm_machine.specs.Settings.{rules_of}
 use Rattle.tm_machine.proofs.PlaceTests.{bad_place-some}
@@ -25,7 +24,6 @@ use Rattle.tm_machine.specs.Reach.{Stand, stand_in, IsWithinReach, ReachesMoreTh
 use Rattle.tm_machine.specs.Scratch.{Tokenizing}
 use Rattle.tm_machine.proofs.ReachedTables.{within-new, within-more, within-grown, full-reaches}
 use Rattle.tm_model.specs.Held.{Held, held_rules, setting_now, changed_model, new_model, GrowsAtFront, IsTurnCause}
-use Rattle.tm_outside.specs.Causes.{Takes}
 use Rattle.tm_app.specs.Play.{Prints}
 use Rattle.tm_app.specs.Printed.{turn_text, shown}
 use Rattle.tm_app.specs.Stands.{Stands, IsReached, table_limit}

@@ -1,5 +1,5 @@
 -- How many lines a text has, and how long they are.
-use Rattle.std.proofs.Common.{◌≡◌, ℕ, zero, suc, ◌+◌, ◌<◌, ◌≤◌, ◌-◌, ◌^◌, Bool, true, false, cond, List, [], ◌∷◌, length, refl, arith, get_or}
+use Rattle.std.proofs.Common.{◌≡◌, ℕ, zero, suc, ◌<◌, ◌≤◌, ◌-◌, ◌^◌, Bool, true, false, cond, List, [], ◌∷◌, length, arith}
 use Rattle.std.specs.Prelude.{All, ◌==◌, slice_index_or}
 use Rattle.std.specs.List.{AllByRecursion}
 use Rattle.tm_machine.specs.Changes.{add_front, lines_after, lines_of}

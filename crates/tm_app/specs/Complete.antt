@@ -7,7 +7,6 @@ use Rattle.tm_forms.specs.Text.{text_in}
 use Rattle.tm_outside.specs.Causes.{Rose}
 use Rattle.tm_app.specs.declared.setup.Setup.{Setup}
 use Rattle.tm_app.specs.declared.play.Fault.TheVariants as fault
-use Rattle.tm_app.specs.declared.status.What.{What}
 use Rattle.tm_app.specs.declared.status.What.TheVariants.{NotYet, BadPlace}
 use Rattle.tm_app.specs.declared.status.Status.{Status}
 use Rattle.tm_app.specs.declared.status.Status.TheVariants.{Ok, Usage, FileFault, Refused, SinkFault, OutOfMemory, TableFull}

@@ -10,7 +10,6 @@ use Rattle.tm_outside.specs.Causes.{Takes}
 use Rattle.tm_app.specs.declared.play.Fault.{Fault}
 use Rattle.tm_app.specs.declared.play.Fault.TheVariants as fault
 use Rattle.tm_app.specs.declared.setup.Setup.{Setup}
-use Rattle.tm_app.specs.declared.status.What.{What}
 use Rattle.tm_app.specs.declared.status.What.TheVariants.{NotYet, BadPlace}
 use Rattle.tm_app.specs.declared.status.Status.{Status}
 use Rattle.tm_app.specs.declared.status.Status.TheVariants.{Ok, Usage, FileFault, Refused, SinkFault, OutOfMemory, TableFull}

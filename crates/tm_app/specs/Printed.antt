@@ -1,5 +1,5 @@
 -- What is printed of the machine's answers and of what it keeps of lines.
-use Rattle.std.specs.Prelude.{◌≡◌, ℕ, ◌+◌, List, [], ◌∷◌, ◌++◌, codes, decimal, Bool, true, false, Option, Some, None, if◌then◌else◌}
+use Rattle.std.specs.Prelude.{ℕ, ◌+◌, List, [], ◌∷◌, ◌++◌, codes, decimal, Bool, Option, Some, None, if◌then◌else◌}
 use Rattle.tm_defs.specs.declared.events.Turn.{Turn}
 use Rattle.tm_defs.specs.declared.events.Turn.TheVariants.{Done, Idle, Blocked}
 use Rattle.tm_defs.specs.declared.frames.FrameData.{FrameData}

@@ -6,7 +6,6 @@ use Rattle.tm_forms.specs.Script.{script_in}
 use Rattle.tm_forms.specs.Text.{text_in}
 use Rattle.tm_literal.specs.Setting.{Setting}
 use Rattle.tm_app.specs.declared.setup.Setup.{Setup}
-use Rattle.tm_app.specs.declared.status.What.{What}
 use Rattle.tm_app.specs.declared.status.What.TheVariants.{NotYet, BadPlace}
 use Rattle.tm_app.specs.declared.status.Status.{Status}
 use Rattle.tm_app.specs.declared.status.Status.TheVariants.{Ok, Usage, FileFault, Refused, SinkFault, OutOfMemory, TableFull}

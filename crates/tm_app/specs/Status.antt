@@ -1,5 +1,5 @@
 -- What is printed of how a run ended.
-use Rattle.std.specs.Prelude.{ℕ, List, [], ◌∷◌, ◌++◌, codes, decimal, encode_utf8_all}
+use Rattle.std.specs.Prelude.{ℕ, List, [], ◌++◌, codes, decimal, encode_utf8_all}
 use Rattle.tm_app.specs.declared.status.What.{What}
 use Rattle.tm_app.specs.declared.status.What.TheVariants.{NotYet, BadPlace}
 use Rattle.tm_app.specs.declared.status.Status.{Status}

@@ -1,9 +1,8 @@
 -- Why the steps of a script may stop, and what was written by then.
-use Rattle.std.specs.Prelude.{◌≡◌, ◌⊎◌, ℕ, ◌+◌, List, [], ◌++◌, take, Option, Some, ⊤, slice_get}
+use Rattle.std.specs.Prelude.{◌≡◌, ◌⊎◌, ℕ, ◌+◌, List, [], take, Option, Some, slice_get}
 use Rattle.tm_defs.specs.declared.changes.Change.{Change}
 use Rattle.tm_defs.specs.declared.events.Step.TheVariants.{Edit}
-use Rattle.tm_forms.specs.declared.script.ScriptStep.{ScriptStep}
-use Rattle.tm_forms.specs.declared.script.ScriptStep.TheVariants.{Core, Show}
+use Rattle.tm_forms.specs.declared.script.ScriptStep.TheVariants.{Core}
 use Rattle.tm_forms.specs.declared.script.Scripted.{Scripted}
 use Rattle.tm_machine.specs.Machine.{Rules, Machine}
 use Rattle.tm_machine.specs.Places.{IsIn}

@@ -1,6 +1,5 @@
 -- What the reading of one file may answer.
 use Rattle.std.specs.Prelude.{◌≡◌, ℕ, List, [], ◌∷◌, ◌++◌, Option, ⊤, MatchOption, chars}
-use Rattle.tm_app.specs.declared.status.What.{What}
 use Rattle.tm_app.specs.declared.status.What.TheVariants.{NotYet, BadPlace}
 use Rattle.tm_app.specs.declared.status.Status.{Status}
 use Rattle.tm_app.specs.declared.status.Status.TheVariants.{Ok, Usage, FileFault, Refused, SinkFault, OutOfMemory, TableFull}

@@ -1,9 +1,9 @@
 -- Places of births, and what a splice does to them.
-use Rattle.std.proofs.Common.{◌≡◌, ℕ, zero, suc, ◌+◌, ◌-◌, ◌<◌, ◌≤◌, Bool, true, false, cond, ◌&&◌, ◌==◌, nat_lt, ◌⊎◌, List, [], ◌∷◌, ◌++◌, length, take, drop, Option, Some, None, option_map, option_and_then, if◌then◌else◌, refl, sym, ap, ◌∙◌, subst, inl, inr, ⊎_elim, arith, eqb→eq, eq-eqb, eqb-true}
-use Rattle.std.proofs.lemmas.Bool.{cases_Bool, and_parts, and_from}
-use Rattle.tm_machine.specs.Births.{Birth, is_birth, place_of, born_from, born, AllDiffer, NoLaterThan}
+use Rattle.std.proofs.Common.{◌≡◌, ℕ, zero, suc, ◌+◌, ◌≤◌, Bool, true, false, ◌==◌, List, [], ◌∷◌, ◌++◌, length, drop, Option, Some, None, option_map, option_and_then, refl, sym, ap, ◌∙◌, subst, arith}
+use Rattle.std.proofs.lemmas.Bool.{and_parts}
+use Rattle.tm_machine.specs.Births.{Birth, is_birth, place_of, AllDiffer}
 use Rattle.tm_defs.specs.declared.changes.LineEffect.{LineEffect}
-use Rattle.tm_machine.specs.Changes.{spliced, moved, line_after}
+use Rattle.tm_machine.specs.Changes.{spliced, moved}
 
 pub is_birth-true : (a b : Birth) → is_birth a b ≡ true → a ≡ b
 is_birth-true a b h =

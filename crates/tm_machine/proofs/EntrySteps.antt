@@ -1,16 +1,14 @@
 -- Each step on the entries keeps them right, and right entries are accurate.
-use Rattle.std.proofs.Common.{◌≡◌, ℕ, zero, suc, ◌+◌, ◌-◌, ◌<◌, ◌≤◌, Bool, true, false, IsTrue, cond, not, List, [], ◌∷◌, ◌++◌, length, take, drop, map, Option, Some, None, refl, sym, ap, ◌∙◌, subst, arith, add-one, replicate}
-use Rattle.std.specs.Prelude.{slice_get, ◌&&◌, position}
+use Rattle.std.proofs.Common.{◌≡◌, ℕ, zero, suc, ◌+◌, ◌<◌, ◌≤◌, Bool, true, false, cond, List, [], ◌∷◌, ◌++◌, length, take, drop, map, Option, Some, None, refl, sym, ap, ◌∙◌, subst, arith, add-one}
+use Rattle.std.specs.Prelude.{slice_get}
 use Rattle.std.specs.List.{list_all}
 use Rattle.std.proofs.lemmas.Bool.{and_parts, and_from}
-use Rattle.std.proofs.lemmas.Option.{slice_get_within, slice_get-get_or}
+use Rattle.std.proofs.lemmas.Option.{slice_get-get_or}
 use Rattle.tm_defs.specs.declared.frames.FrameData.{FrameData}
-use Rattle.tm_defs.specs.declared.tokens.Token.{Token}
-use Rattle.tm_defs.specs.Tokenizer.{Tokenized}
 use Rattle.tm_machine.specs.declared.entries.Entry.{Entry}
 use Rattle.tm_machine.specs.Changes.{spliced}
-use Rattle.tm_machine.specs.Scratch.{Tokenizing, state_from, state_from_scratch, line_from_scratch}
-use Rattle.tm_machine.specs.Entries.{blank, invalid, first_invalid, put, stored, is_end, end_at, start_at, block, blocked_at, last_end, blanks, is_accurate, is_settled, Holds, IsRight, AreRight, IsFromScratch, AreAccurate}
+use Rattle.tm_machine.specs.Scratch.{Tokenizing, state_from}
+use Rattle.tm_machine.specs.Entries.{blank, invalid, first_invalid, put, stored, is_end, end_at, start_at, block, last_end, blanks, is_accurate, is_settled, Holds, IsRight, AreRight, IsFromScratch, AreAccurate}
 use Rattle.tm_machine.proofs.SameStates.{is_end-true}
 
 -- an entry that is neither good nor blocked is right

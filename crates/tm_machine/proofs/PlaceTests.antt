@@ -1,11 +1,11 @@
 -- The test of a change's places says whether they are in the text.
-use Rattle.std.proofs.Common.{◌≡◌, ℕ, ◌<◌, ◌≤◌, Bool, true, false, cond, nat_eq, nat_lt, List, [], ◌∷◌, length, Option, Some, None, refl, ap, sym, ◌∙◌, arith, subst, get_or}
-use Rattle.std.specs.Prelude.{nat_le, ◌&&◌, ◌||◌, slice_get, slice_index_or}
+use Rattle.std.proofs.Common.{◌≡◌, ℕ, ◌<◌, ◌≤◌, Bool, true, false, cond, nat_eq, nat_lt, List, [], length, Option, Some, None, refl, ap, sym, ◌∙◌, arith}
+use Rattle.std.specs.Prelude.{nat_le, ◌&&◌, ◌||◌, slice_get}
 use Rattle.std.proofs.lemmas.Bool.Decides.{nat_tests}
 use Rattle.std.proofs.lemmas.Option.{slice_get_within, get_or_from_slice_get, slice_get-get_or}
 use Rattle.tm_defs.specs.declared.changes.Change.{Change}
 use Rattle.tm_defs.specs.declared.changes.Place.{Place}
-use Rattle.tm_defs.specs.declared.changes.Place.TheVariants.{NoLine, NoCol, Reversed}
+use Rattle.tm_defs.specs.declared.changes.Place.TheVariants.{NoCol, Reversed}
 use Rattle.tm_machine.specs.Places.{line_at, IsIn, column_fault, line_fault, place_fault, is_reversed, first_fault, bad_place}
 
 both : {X : Type 0} (P : X → Type 0) (b : Bool) (x y : X) → (b ≡ true → P x) → (b ≡ false → P y) → P (cond b x y)

@@ -1,21 +1,16 @@
 -- A table that gains only what the front line makes stays within the reach, and a full one shows that the reach is large.
-use Rattle.std.proofs.Common.{◌≡◌, ℕ, zero, suc, ◌+◌, ◌<◌, ◌≤◌, Bool, true, false, not, List, [], ◌∷◌, ◌++◌, length, take, get_or, Option, Some, None, refl, sym, ap, ◌∙◌, subst, inl, inr, ◌⊎◌, arith, length-append}
-use Rattle.std.specs.Prelude.{slice_get, position, Contains}
-use Rattle.std.specs.List.{AllByRecursion, list_all}
-use Rattle.std.proofs.lemmas.Bool.{and_parts, and_from}
-use Rattle.std.proofs.lemmas.List.{append-nil}
-use Rattle.std.proofs.lemmas.List.Elements.{Contains-append_left, Contains-append_right}
+use Rattle.std.proofs.Common.{◌≡◌, ℕ, zero, suc, ◌<◌, ◌≤◌, Bool, true, false, not, List, [], ◌∷◌, ◌++◌, length, get_or, Option, Some, None, refl, sym, ap, ◌∙◌, subst, inl, inr, ◌⊎◌, arith}
+use Rattle.std.specs.Prelude.{Contains}
+use Rattle.std.specs.List.{AllByRecursion}
 use Rattle.std.proofs.lemmas.List.Quantifiers.{position-Some}
-use Rattle.std.proofs.lemmas.Option.{slice_get_within}
 use Rattle.tm_defs.specs.declared.events.Step.{Step}
 use Rattle.tm_defs.specs.declared.frames.FrameData.{FrameData}
-use Rattle.tm_defs.specs.Tables.{Tables, TableEntries, GrowsBy, GrowsWithin, IsNumbering, NoneTwice, LacksOne, LacksEntry}
+use Rattle.tm_defs.specs.Tables.{Tables, TableEntries, GrowsBy, GrowsWithin, IsNumbering, LacksEntry}
 use Rattle.tm_machine.specs.declared.entries.Entry.{Entry}
-use Rattle.tm_machine.specs.Entries.{AreRight, start_at, end_at, front, blank}
-use Rattle.tm_machine.specs.Machine.{Rules, Machine, Answer, IsReady, opening}
-use Rattle.tm_machine.specs.Reach.{Stand, stand_in, stand_after, stands_of, made_at, IsMade, ReachesText, ReachesPath, ReachesState, HasMoreThan, ReachesMoreThan, IsWithinReach}
+use Rattle.tm_machine.specs.Entries.{AreRight, start_at, front, blank}
+use Rattle.tm_machine.specs.Machine.{Rules, IsReady, opening}
+use Rattle.tm_machine.specs.Reach.{Stand, stand_after, stands_of, IsMade, ReachesText, ReachesPath, ReachesState, HasMoreThan, ReachesMoreThan, IsWithinReach}
 use Rattle.tm_machine.specs.Scratch.{Tokenizing, state_from, state_from_scratch}
-use Rattle.tm_machine.proofs.EntrySteps.{length-right}
 
 not-false : (b : Bool) → not b ≡ false → b ≡ true
 not-false true h = refl

@@ -1,6 +1,6 @@
 -- Each step of the machine keeps its entries right.
-use Rattle.std.proofs.Common.{◌≡◌, ℕ, zero, suc, ◌+◌, ◌-◌, ◌<◌, ◌≤◌, ◌⊎◌, Bool, true, false, not, List, [], ◌∷◌, ◌++◌, length, take, drop, map, Option, Some, None, refl, sym, ap, ◌∙◌, subst, inl, inr, arith, get_or}
-use Rattle.std.specs.Prelude.{slice_get, position}
+use Rattle.std.proofs.Common.{◌≡◌, ℕ, zero, suc, ◌+◌, ◌-◌, ◌<◌, ◌≤◌, Bool, true, false, not, List, [], ◌∷◌, ◌++◌, length, take, drop, Option, Some, None, refl, sym, ap, ◌∙◌, subst, inl, inr, arith}
+use Rattle.std.specs.Prelude.{slice_get}
 use Rattle.std.proofs.lemmas.List.Quantifiers.{position-Some}
 use Rattle.std.proofs.lemmas.Option.{get_or_from_slice_get}
 use Rattle.tm_defs.specs.declared.changes.Change.{Change}
@@ -11,7 +11,7 @@ use Rattle.tm_defs.specs.declared.events.Turn.TheVariants.{Done, Idle, Blocked}
 use Rattle.tm_defs.specs.declared.frames.FrameData.{FrameData}
 use Rattle.tm_machine.specs.declared.entries.Entry.{Entry}
 use Rattle.tm_machine.specs.Changes.{lines_changed, new_lines, effect_of, spliced}
-use Rattle.tm_machine.specs.Entries.{blank, blanks, last_end, replaced, front, AreRight}
+use Rattle.tm_machine.specs.Entries.{blanks, last_end, replaced, front, AreRight}
 use Rattle.tm_machine.specs.Machine.{Rules, Machine, Answer, Edited, Lined, Steps, Runs, Turns, IsAccurate, machine_of, opening}
 use Rattle.tm_machine.specs.Places.{IsIn, line_at}
 use Rattle.tm_machine.specs.Scratch.{Tokenizing}

@@ -1,6 +1,5 @@
 -- A splice of a list.
-use Rattle.std.proofs.Common.{◌≡◌, ℕ, zero, suc, ◌+◌, ◌-◌, ◌<◌, ◌≤◌, Bool, true, false, nat_lt, ◌⊎◌, if◌then◌else◌, List, [], ◌∷◌, ◌++◌, length, take, drop, Option, Some, None, option_map, option_and_then, slice_get, refl, sym, ap, ◌∙◌, subst, arith, length-append, length-take, length-drop, zero-add, add-zero, suc-add}
-use Rattle.tm_defs.specs.declared.changes.LineEffect.{LineEffect}
+use Rattle.std.proofs.Common.{◌≡◌, ℕ, zero, suc, ◌+◌, ◌-◌, ◌≤◌, List, [], ◌∷◌, ◌++◌, length, drop, Option, Some, None, option_map, slice_get, refl, sym, ap, ◌∙◌, arith, length-append, length-take, length-drop, zero-add, suc-add}
 use Rattle.tm_machine.specs.Changes.{spliced, moved}
 use Rattle.tm_machine.proofs.BirthPlaces.{effect, moved-suc}
 

@@ -1,6 +1,6 @@
 -- The lines of a text.
-use Rattle.std.proofs.Common.{◌≡◌, ◌≢◌, ℕ, zero, suc, ◌+◌, ◌<◌, ◌≤◌, Bool, true, false, ◌==◌, List, [], ◌∷◌, ◌++◌, length, if◌then◌else◌, refl, sym, ap, ◌∙◌, subst, arith}
-use Rattle.tm_machine.specs.Changes.{add_front, lines_after, lines_of, HasNoBreak, HaveNoBreak}
+use Rattle.std.proofs.Common.{◌≡◌, ◌≢◌, ℕ, ◌≤◌, Bool, true, false, ◌==◌, List, [], ◌∷◌, length, refl, arith}
+use Rattle.tm_machine.specs.Changes.{add_front, lines_after, HaveNoBreak}
 
 no_break_front : (c : ℕ) (lines : List (List ℕ)) → c ≢ 13 → c ≢ 10 → HaveNoBreak lines → HaveNoBreak (add_front c lines)
 no_break_front c [] a b h = ((a, b, tt), tt)

@@ -1,6 +1,6 @@
 -- What is kept of the lines of a text, in line order, and the steps on it. An end is a state, or the
 -- number of one.
-use Rattle.std.specs.Prelude.{◌≡◌, ℕ, zero, suc, ◌+◌, ◌-◌, ◌<◌, Bool, true, false, not, List, [], ◌∷◌, ◌++◌, length, take, drop, map, position, Option, Some, None, option_and_then, if◌then◌else◌, slice_get, IsTrue}
+use Rattle.std.specs.Prelude.{◌≡◌, ℕ, zero, suc, ◌+◌, ◌<◌, Bool, true, false, not, List, [], ◌∷◌, length, take, drop, position, Option, Some, None, option_and_then, if◌then◌else◌, slice_get, IsTrue}
 use Rattle.std.specs.List.{list_all}
 use Rattle.tm_defs.specs.declared.changes.LineEffect.{LineEffect}
 use Rattle.tm_defs.specs.declared.frames.FrameData.{FrameData}
@@ -8,7 +8,7 @@ use Rattle.tm_defs.specs.declared.tokens.Token.{Token}
 use Rattle.tm_defs.specs.Tokenizer.{Tokenized}
 use Rattle.tm_machine.specs.declared.entries.Entry.{Entry}
 use Rattle.tm_machine.specs.Changes.{spliced}
-use Rattle.tm_machine.specs.Scratch.{Tokenizing, state_from_scratch, line_from_scratch}
+use Rattle.tm_machine.specs.Scratch.{Tokenizing, line_from_scratch}
 use Rattle.tm_machine.specs.States.{same_state}
 
 -- nothing is known of the line but the end of a line that stood there, if that

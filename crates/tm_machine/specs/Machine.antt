@@ -1,6 +1,6 @@
 -- The machine of births: what the steps of the service do to a text and to what is kept of its lines.
 -- It is the foreground alone here; the worker, the orders and the batches come beside it.
-use Rattle.std.specs.Prelude.{◌≡◌, ◌≢◌, ℕ, suc, ◌<◌, ◌⊎◌, Bool, true, false, List, [], ◌∷◌, length, map, Option, Some, None, slice_get}
+use Rattle.std.specs.Prelude.{◌≡◌, ℕ, suc, ◌<◌, ◌⊎◌, true, false, List, [], ◌∷◌, map, Option, Some, None, slice_get}
 use Rattle.tm_defs.specs.declared.changes.Change.{Change}
 use Rattle.tm_defs.specs.declared.events.Step.{Step}
 use Rattle.tm_defs.specs.declared.events.Step.TheVariants as step
@@ -8,7 +8,6 @@ use Rattle.tm_defs.specs.declared.events.Turn.{Turn}
 use Rattle.tm_defs.specs.declared.events.Turn.TheVariants.{Done, Idle, Blocked}
 use Rattle.tm_defs.specs.declared.frames.FrameData.{FrameData}
 use Rattle.tm_machine.specs.declared.entries.Entry.{Entry}
-use Rattle.tm_machine.specs.Births.{Birth}
 use Rattle.tm_machine.specs.Changes.{BornText, changed, opened, effect_of}
 use Rattle.tm_machine.specs.Entries.{blank, block, blocked_at, front, replaced, start_at, stored, AreAccurate}
 use Rattle.tm_machine.specs.Places.{IsIn}

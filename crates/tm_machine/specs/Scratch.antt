@@ -1,5 +1,5 @@
 -- Tokenizing a text from its first line. It knows no entry, no version and no budget.
-use Rattle.std.specs.Prelude.{◌≡◌, ℕ, zero, suc, List, [], ◌∷◌}
+use Rattle.std.specs.Prelude.{ℕ, zero, suc, List, [], ◌∷◌}
 use Rattle.tm_defs.specs.declared.frames.FrameData.{FrameData}
 use Rattle.tm_defs.specs.Tables.{TableEntries}
 use Rattle.tm_defs.specs.Tokenizer.{Tokenized}

@@ -1,4 +1,4 @@
-use Rattle.std.proofs.Common.{◌≡◌, ◌≤◌, ◌<◌, refl, ap, sym, ◌∙◌, rules, get_or, length, arith}
+use Rattle.std.proofs.Common.{◌≡◌, ap, ◌∙◌, get_or, length, arith}
 use Rattle.tm_app.proofs.Commands.{words-are, not-command, same-text, other-text}
 use Rattle.tm_app.proofs.outcome.command_of.Goals as goal
 

@@ -1,4 +1,4 @@
-use Rattle.std.proofs.Common.{inr, refl}
+use Rattle.std.proofs.Common.{inr}
 use Rattle.tm_app.specs.Reading.{Names}
 use Rattle.tm_app.proofs.Outcomes.{load-outcome, place-outcome}
 use Rattle.tm_app.proofs.PlayRuns.{takes-none}

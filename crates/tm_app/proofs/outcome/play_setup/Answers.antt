@@ -1,4 +1,4 @@
-use Rattle.std.proofs.Common.{◌≡◌, ◌∙◌, ap, map, length, arith, List, ℕ, [], ◌∷◌, vec_len}
+use Rattle.std.proofs.Common.{◌∙◌, ap, map, arith, [], ◌∷◌}
 use Rattle.std.specs.Arc.{arc_value}
 use Rattle.std.proofs.lemmas.List.{length-map}
 use Rattle.tm_machine.specs.Changes.{lines_of}

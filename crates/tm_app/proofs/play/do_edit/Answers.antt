@@ -1,4 +1,4 @@
-use Rattle.std.proofs.Common.{refl, [], List, ℕ}
+use Rattle.std.proofs.Common.{[]}
 use Rattle.tm_app.proofs.PlayRuns.{takes-none}
 use Rattle.tm_app.proofs.StandSteps.{edit-prints, edit-reached, bad-edit}
 use Rattle.tm_app.proofs.play.do_edit.Goals as goal

@@ -1,4 +1,4 @@
-use Rattle.std.proofs.Common.{◌∙◌, refl}
+use Rattle.std.proofs.Common.{◌∙◌}
 use Rattle.tm_app.proofs.PlayRuns.{on_ok, if_err, write-stops, takes-none}
 use Rattle.tm_app.proofs.StandSteps.{line-prints, line-reached, full-reached}
 use Rattle.tm_app.proofs.play.do_line.Goals as goal

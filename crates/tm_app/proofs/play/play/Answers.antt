@@ -1,4 +1,4 @@
-use Rattle.std.proofs.Common.{arith, ◌++◌, ◌+◌, subst, sym, refl, ◌≡◌, ap, ◌∙◌, List, ℕ, take, take_all}
+use Rattle.std.proofs.Common.{arith, ◌++◌, ◌+◌, subst, ap, ◌∙◌, List, take_all}
 use Rattle.tm_forms.specs.declared.script.Scripted.{Scripted}
 use Rattle.tm_forms.specs.Script.{is_built}
 use Rattle.tm_outside.proofs.Taken.{takes-trans}

@@ -1,4 +1,4 @@
-use Rattle.std.proofs.Common.{◌≤◌, ◌≡◌, List, [], ◌∷◌, ℕ, take}
+use Rattle.std.proofs.Common.{◌≤◌, List, [], ◌∷◌, ℕ, take}
 use Rattle.tm_machine.specs.Machine.{Rules, Machine}
 use Rattle.tm_machine.specs.Reach.{stand_in}
 use Rattle.tm_outside.specs.Causes.{Takes}

@@ -1,4 +1,4 @@
-use Rattle.std.proofs.Common.{arith, ◌∙◌, ap, ◌++◌, sym, drop, ◌+◌}
+use Rattle.std.proofs.Common.{arith, ◌∙◌, ap, ◌++◌, drop, ◌+◌}
 use Rattle.tm_outside.proofs.Taken.{takes-trans}
 use Rattle.tm_app.specs.Printed.{line_text, shown_from}
 use Rattle.tm_app.proofs.ShownLines.{shown-next, shown-parts, show-stops}

@@ -1,7 +1,6 @@
-use Rattle.std.proofs.Common.{refl, Option, ◌∙◌, ap, List, ℕ, ◌≡◌, Some, sym}
-use Rattle.tm_forms.specs.Settings.{settings_in}
+use Rattle.std.proofs.Common.{refl, Option, ◌∙◌, ap, List, ℕ, ◌≡◌, Some}
 use Rattle.tm_forms.specs.Grammar.{grammar_in}
-use Rattle.tm_app.specs.Reading.{Names, the_text, the_script, GivesGrammar, GivesText}
+use Rattle.tm_app.specs.Reading.{Names, the_text, the_script, GivesGrammar}
 use Rattle.tm_app.proofs.Loads.{load-stop, grown-trans, told-as}
 use Rattle.tm_forms.specs.Text.{text_in}
 use Rattle.tm_app.proofs.setup.load_all.Goals as goal
