@@ -66,7 +66,7 @@ fn sets_are_joined(rt: HostRuntime) -> Result<(), Fail> {
     let letters = Set::range(rt.alloc(), 'a', 'c')?;
     let others = Set::from_ranges(rt.alloc(), &[('c', 'd')])?;
     assert!(rt; letters.has('b') && !letters.complement()?.has('b'));
-    assert!(rt; letters.complement()?.has('\u{E000}'));
+    assert!(rt; letters.complement()?.has('\u{E000}') && letters.folded()?.has('B'));
     assert!(rt; letters.union(&others)?.has('d'));
     let both = letters.meet(&others)?;
     assert!(rt; both.has('c') && !both.has('b'));

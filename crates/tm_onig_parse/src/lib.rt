@@ -44,3 +44,6 @@ pub fn parse(alloc: Global, text: &Name) -> Result<Pattern, ParseFault>
 {
     reader::read(alloc, text.as_slice())
 }
+
+#[cfg(test)]
+mod tests;
