@@ -1,0 +1,10 @@
+pub mod Commands
+pub mod Completes
+pub mod LiteralRuns
+pub mod Loads
+pub mod Outcomes
+pub mod PlayRuns
+pub mod ShownLines
+pub mod StandSteps
+pub mod StepTests
+pub mod TextSizes

@@ -1,0 +1,34 @@
+-- The lines of a show, one line more.
+use Rattle.std.proofs.Common.{◌≡◌, ℕ, suc, ◌+◌, ◌<◌, ◌≤◌, List, [], ◌∷◌, ◌++◌, drop, get_or, Option, Some, refl, ap, sym, ◌∙◌, append_assoc, add-one, drop-cons, arith, length}
+use Rattle.std.specs.Prelude.{slice_get}
+use Rattle.std.proofs.lemmas.Option.{slice_get_within, get_or_from_slice_get}
+use Rattle.tm_defs.specs.declared.frames.FrameData.{FrameData}
+use Rattle.tm_machine.specs.declared.entries.Entry.{Entry}
+use Rattle.tm_machine.specs.Entries.{is_accurate}
+use Rattle.tm_outside.specs.Causes.{Takes, TakesFront, Rose}
+use Rattle.tm_app.specs.declared.play.Fault.{Fault}
+use Rattle.tm_app.specs.declared.play.Fault.TheVariants.{SinkFault, OutOfMemory, TableFull, BadPlace}
+use Rattle.tm_app.specs.Printed.{line_text, shown_from, shown}
+use Rattle.tm_app.specs.Stops.{IsWriteStop}
+use Rattle.tm_app.proofs.PlayRuns.{front-after}
+
+-- what is shown so far, one line, and the rest
+pub shown-parts : (all : List (Entry (List FrameData))) (i : ℕ) (e : Entry (List FrameData)) (bytes line : List ℕ) → slice_get all i ≡ Some e → line ≡ line_text (is_accurate all i) i e.tokens →
+    bytes ++ shown_from all i (drop i all) ≡ shown all → bytes ++ (line ++ shown_from all (i + 1) (drop (i + 1) all)) ≡ shown all
+shown-parts all i e bytes line at is h =
+    let within = slice_get_within all i e at in
+    let here : get_or all i e ≡ e = get_or_from_slice_get all i e e at in
+    let split : drop i all ≡ e ∷ drop (i + 1) all = drop-cons all i e within ∙ ap (λ x. x ∷ drop (suc i) all) here ∙ ap (λ n. e ∷ drop n all) (sym (add-one i)) in
+    ap (λ l. bytes ++ (l ++ shown_from all (i + 1) (drop (i + 1) all))) is ∙ ap (λ l. bytes ++ shown_from all i l) (sym split) ∙ h
+
+pub shown-next : (all : List (Entry (List FrameData))) (i : ℕ) (e : Entry (List FrameData)) (bytes line : List ℕ) → slice_get all i ≡ Some e → line ≡ line_text (is_accurate all i) i e.tokens →
+    bytes ++ shown_from all i (drop i all) ≡ shown all → (bytes ++ line) ++ shown_from all (i + 1) (drop (i + 1) all) ≡ shown all
+shown-next all i e bytes line at is h = append_assoc bytes line (shown_from all (i + 1) (drop (i + 1) all)) ∙ shown-parts all i e bytes line at is h
+
+-- what is shown was not written whole
+pub show-stops : (a b c : Option (List ℕ)) (x y z all : List ℕ) (f0 f g : ℕ) (fault : Fault) → x ++ (y ++ z) ≡ all → Takes a b x → f0 ≤ f →
+    IsWriteStop (TakesFront b c y) f g fault → IsWriteStop (TakesFront a c all) f0 g fault
+show-stops a b c x y z all f0 f g SinkFault e h le s = (front-after a b c x y z all e h s.0, omega (arith, le, s.1))
+show-stops a b c x y z all f0 f g OutOfMemory e h le s = front-after a b c x y z all e h s
+show-stops a b c x y z all f0 f g TableFull e h le s = s
+show-stops a b c x y z all f0 f g (BadPlace line) e h le s = s

@@ -1,0 +1,29 @@
+use Rattle.std.proofs.Common.{◌≡◌, ◌∙◌, ap, map, length, arith, List, ℕ, [], ◌∷◌, vec_len}
+use Rattle.std.specs.Arc.{arc_value}
+use Rattle.std.proofs.lemmas.List.{length-map}
+use Rattle.tm_machine.specs.Changes.{lines_of}
+use Rattle.tm_app.proofs.LiteralRuns.{setup-play, setup-stop}
+use Rattle.tm_app.proofs.PlayRuns.{on_ok, if_err}
+use Rattle.tm_app.proofs.TextSizes.{lines-some, lines-few, lines-short}
+use Rattle.tm_app.proofs.outcome.play_setup.Goals as goal
+
+pub counted-requires-clause-lines : goal.counted-requires-clause-lines
+counted-requires-clause-lines g c =
+    let some = lines-some (map arc_value c.in-Ok.lines.items) c.as_slice.result.now c.in-Ok.ensures in
+    omega (arith, some, length-map c.in-Ok.lines.items arc_value, c.in-Ok.lines.ok.0)
+
+pub counted-requires-clause-count : goal.counted-requires-clause-count
+counted-requires-clause-count g c =
+    let few = lines-few (map arc_value c.in-Ok.lines.items) c.as_slice.result.now c.in-Ok.ensures c.as_slice.ensures.short in
+    omega (arith, few, length-map c.in-Ok.lines.items arc_value, c.in-Ok.lines.ok.0)
+
+pub counted-requires-clause-short : goal.counted-requires-clause-short
+counted-requires-clause-short g c = lines-short (map arc_value c.in-Ok.lines.items) c.as_slice.result.now c.in-Ok.ensures c.as_slice.ensures.short
+
+pub returns-clause-ok : goal.returns-clause-ok
+returns-clause-ok g c = on_ok c.counted.result _ _ (λ done. setup-play c.args.setup (c.into_literal.result ∷ []) (map arc_value c.in-Ok.lines.items) c.as_slice-2.result.now _ _
+    (ap (λ s. s ∷ []) c.into_literal.ensures) (c.in-Ok.ensures ∙ ap lines_of c.as_slice.ensures.value) c.as_slice-2.ensures.value done) c.counted.ensures.ok
+
+pub returns-clause-err : goal.returns-clause-err
+returns-clause-err g c = if_err c.counted.result _ _ (λ fault stopped. setup-stop c.args.setup (c.into_literal.result ∷ []) (map arc_value c.in-Ok.lines.items) c.as_slice-2.result.now _ _ _ _ fault
+    (ap (λ s. s ∷ []) c.into_literal.ensures) (c.in-Ok.ensures ∙ ap lines_of c.as_slice.ensures.value) c.as_slice-2.ensures.value stopped) c.counted.ensures.err

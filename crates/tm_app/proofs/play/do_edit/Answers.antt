@@ -1,0 +1,14 @@
+use Rattle.std.proofs.Common.{refl, [], List, ℕ}
+use Rattle.tm_app.proofs.PlayRuns.{takes-none}
+use Rattle.tm_app.proofs.StandSteps.{edit-prints, edit-reached, bad-edit}
+use Rattle.tm_app.proofs.play.do_edit.Goals as goal
+
+pub returns-in-Ok-clause-ok : goal.returns-in-Ok-clause-ok
+returns-in-Ok-clause-ok g c = λ before r m past s there reached.
+    let did = edit-prints g.T.LineTok.plain g.T.LineTok.tokenized g.T.LineTok.plain_cost g.T.LineTok.entries_made c.args.model.now c.change.new.self c.args.step.now c.args.change.now c.requires c.in-Ok.ensures.ok.0 c.in-Ok.ensures.ok.2 r m s in
+    ([], did.0, did.1, did.2, edit-reached g.T.LineTok.plain g.T.LineTok.tokenized g.T.LineTok.plain_cost g.T.LineTok.entries_made c.args.model.now c.change.new.self c.args.change.now c.in-Ok.ensures.ok.2 r past reached, takes-none before)
+
+pub returns-in-Err-BadPlace-clause-err : goal.returns-in-Err-BadPlace-clause-err
+returns-in-Err-BadPlace-clause-err g c = λ before faults r m past s there reached.
+    let cause = rw c.in-Err-BadPlace.field-0-is at c.in-Err-BadPlace.ensures.cause in
+    (bad-edit g.T.LineTok.plain g.T.LineTok.tokenized g.T.LineTok.plain_cost g.T.LineTok.entries_made c.args.model.now c.args.step.now c.args.change.now _ c.requires cause.1 r m s, takes-none before)

@@ -1,0 +1,11 @@
+pub mod Complete
+pub mod Hex
+pub mod Outcome
+pub mod Play
+pub mod Printed
+pub mod Reading
+pub mod Report
+pub mod Stands
+pub mod Status
+pub mod Stops
+pub mod Told

@@ -1,0 +1,33 @@
+-- What is printed of how a run ended.
+use Rattle.std.specs.Prelude.{ℕ, List, [], ◌∷◌, ◌++◌, codes, decimal, encode_utf8_all}
+use Rattle.tm_app.specs.declared.status.What.{What}
+use Rattle.tm_app.specs.declared.status.What.TheVariants.{NotYet, BadPlace}
+use Rattle.tm_app.specs.declared.status.Status.{Status}
+use Rattle.tm_app.specs.declared.status.Status.TheVariants as status
+
+abbrev pub usage_text : List ℕ
+usage_text = codes "usage: tm_prog scan SETTINGS FILE, replay SETTINGS FILE SCRIPT, live SETTINGS FILE SCRIPT, lint SETTINGS, gen N\n"
+
+-- with its line break
+abbrev pub what_text : What → List ℕ
+what_text NotYet = codes "NotYet\n"
+what_text (BadPlace line) = codes "BadPlace " ++ decimal line ++ codes "\n"
+
+abbrev pub status_text : Status → List ℕ
+status_text status.Ok = []
+status_text status.Usage = usage_text
+status_text (status.FileFault name) = codes "cannot read " ++ encode_utf8_all name ++ codes "\n"
+status_text (status.Refused name what) = codes "refused " ++ encode_utf8_all name ++ (codes ": " ++ what_text what)
+status_text status.SinkFault = codes "cannot write\n"
+status_text status.OutOfMemory = codes "out of memory\n"
+status_text status.TableFull = codes "table full\n"
+
+-- the exit status
+abbrev pub status_code : Status → ℕ
+status_code status.Ok = 0
+status_code status.Usage = 2
+status_code (status.FileFault name) = 3
+status_code (status.Refused name what) = 4
+status_code status.SinkFault = 5
+status_code status.OutOfMemory = 6
+status_code status.TableFull = 8

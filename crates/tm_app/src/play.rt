@@ -1,0 +1,156 @@
+//! Runs the steps of a script over a model, and writes what they print.
+//!
+//! The clauses speak of every machine of births that the model stands for: the machine takes the same
+//! steps, and what it prints is what was written.
+ghost use Rattle.std.specs.Prelude.{◌≡◌, ℕ, List, ◌≤◌, IfErr, OnOk, IsTrue, Option};
+ghost use Rattle.std.specs.List.{list_all};
+ghost use Rattle.tm_app.specs.Printed.{shown};
+ghost use Rattle.tm_app.specs.Stands.{StepDone, StepStopped, AllDone, AllStopped};
+ghost use Rattle.tm_app.specs.Stops.{IsWriteStop};
+ghost use Rattle.tm_forms.specs.Script.{is_built};
+ghost use Rattle.tm_outside.specs.Causes.{Takes, TakesFront, Rose};
+
+use crate::printed;
+use std::alloc::Global;
+use std::sync::ledger::Ledger;
+use tm_defs::changes::{Change, ChangeFault};
+use tm_defs::events::Step;
+use tm_defs::steps::Steps;
+use tm_defs::tables::TableFault;
+use tm_defs::tokenizer::LineTok;
+use tm_forms::script::{ScriptStep, Scripted};
+use tm_model::model::Model;
+use tm_outside::sink;
+use tm_outside::sink::{Sink, WriteFault};
+
+/// Why the steps stopped.
+#[derive(Clone, Copy, Debug, PartialEq, Eq)]
+pub enum Fault {
+    SinkFault,
+    OutOfMemory,
+    TableFull,
+    /// The edit at this line of the script has a place that is not in the text.
+    BadPlace(u32),
+}
+
+/// Writes one line.
+fn write_line<S: Sink>(text: &str, out: &mut S) -> Result<(), Fault>
+    ensures ok { OnOk result (Takes (S.taken out.old) (S.taken out.new) text.now) }
+    ensures err { IfErr result (IsWriteStop (TakesFront (S.taken out.old) (S.taken out.new) text.now) (S.faults out.old) (S.faults out.new)) }
+    ensures never_falls { S.faults out.old ≤ S.faults out.new }
+{
+    match sink::write_all(out, text.as_bytes()) {
+        Ok(()) => Ok(()),
+        Err(WriteFault::Failed) => Err(Fault::SinkFault),
+        Err(WriteFault::OutOfMemory) => Err(Fault::OutOfMemory),
+    }
+}
+
+/// Writes a line for each line of the text.
+fn show<T: LineTok, S: Sink>(alloc: Global, model: &Model<'_, T>, out: &mut S) -> Result<(), Fault>
+    ensures ok { OnOk result (Takes (S.taken out.old) (S.taken out.new) (shown model.now.entries)) }
+    ensures err { IfErr result (IsWriteStop (TakesFront (S.taken out.old) (S.taken out.new) (shown model.now.entries)) (S.faults out.old) (S.faults out.new)) }
+    ensures never_falls { S.faults out.old ≤ S.faults out.new }
+{
+    for i in 0..model.len() {
+        match printed::shown_line(alloc, model.accurate(i), i, &model.entry(i).tokens) {
+            Ok(text) => match write_line(text.as_str(), out) {
+                Ok(()) => {}
+                Err(fault) => return Err(fault),
+            },
+            Err(_) => return Err(Fault::OutOfMemory),
+        }
+    }
+    Ok(())
+}
+
+/// The step `line`.
+fn do_line<T: LineTok, S: Sink, L: Ledger>(
+    alloc: Global,
+    model: &mut Model<'_, T>,
+    step: &Scripted,
+    out: &mut S,
+    steps: &mut Steps<L>,
+) -> Result<(), Fault>
+    requires { step.now.step ≡ ScriptStep.Core Step.Line }
+    ensures ok { OnOk result (StepDone T.plain T.tokenized T.plain_cost T.entries_made model.old step.now model.new (S.taken out.old) (S.taken out.new)) }
+    ensures err { IfErr result (StepStopped T.plain T.tokenized T.plain_cost T.entries_made model.old step.now (S.taken out.old) (S.taken out.new) (S.faults out.old) (S.faults out.new)) }
+    ensures never_falls { S.faults out.old ≤ S.faults out.new }
+{
+    model.sound();
+    match model.line(steps) {
+        Ok(turn) => match printed::turn_line(alloc, turn) {
+            Ok(text) => write_line(text.as_str(), out),
+            Err(_) => Err(Fault::OutOfMemory),
+        },
+        Err(TableFault::TableFull(_)) => {
+            model.sound();
+            Err(Fault::TableFull)
+        }
+        Err(TableFault::OutOfMemory) => Err(Fault::OutOfMemory),
+    }
+}
+
+/// The step `edit`. It prints nothing.
+fn do_edit<T: LineTok>(
+    model: &mut Model<'_, T>,
+    step: &Scripted,
+    change: &Change,
+) -> Result<(), Fault>
+    requires { step.now.step ≡ ScriptStep.Core (Step.Edit change.now) }
+    ensures ok { OnOk result ((before : Option (List ℕ)) → StepDone T.plain T.tokenized T.plain_cost T.entries_made model.old step.now model.new before before) }
+    ensures err { IfErr result (λ fault. (before : Option (List ℕ)) (faults : ℕ) → StepStopped T.plain T.tokenized T.plain_cost T.entries_made model.old step.now before before faults faults fault) }
+{
+    match model.change(change) {
+        Ok(_) => Ok(()),
+        Err(ChangeFault::BadPlace(_)) => Err(Fault::BadPlace(step.line)),
+        Err(ChangeFault::TextFull(_)) => unreachable!(),
+        Err(ChangeFault::VersionFull(_)) => Err(Fault::OutOfMemory),
+        Err(ChangeFault::OutOfMemory) => Err(Fault::OutOfMemory),
+    }
+}
+
+/// Does one step, and writes what it prints.
+fn do_step<T: LineTok, S: Sink, L: Ledger>(
+    alloc: Global,
+    model: &mut Model<'_, T>,
+    step: &Scripted,
+    out: &mut S,
+    steps: &mut Steps<L>,
+) -> Result<(), Fault>
+    requires { IsTrue (is_built step.now) }
+    ensures ok { OnOk result (StepDone T.plain T.tokenized T.plain_cost T.entries_made model.old step.now model.new (S.taken out.old) (S.taken out.new)) }
+    ensures err { IfErr result (StepStopped T.plain T.tokenized T.plain_cost T.entries_made model.old step.now (S.taken out.old) (S.taken out.new) (S.faults out.old) (S.faults out.new)) }
+    ensures never_falls { S.faults out.old ≤ S.faults out.new }
+{
+    match &step.step {
+        ScriptStep::Core(Step::Edit(change)) => do_edit(model, step, change),
+        ScriptStep::Core(Step::Line) => do_line(alloc, model, step, out, steps),
+        ScriptStep::Core(_) => unreachable!(),
+        ScriptStep::Show => {
+            model.sound();
+            show(alloc, model, out)
+        }
+    }
+}
+
+/// Does the steps in order.
+pub fn play<T: LineTok, S: Sink, L: Ledger>(
+    alloc: Global,
+    model: &mut Model<'_, T>,
+    script: &[Scripted],
+    out: &mut S,
+    steps: &mut Steps<L>,
+) -> Result<(), Fault>
+    requires { IsTrue (list_all is_built script.now) }
+    ensures ok { OnOk result (AllDone T.plain T.tokenized T.plain_cost T.entries_made model.old script.now (S.taken out.old) (S.taken out.new)) }
+    ensures err { IfErr result (AllStopped T.plain T.tokenized T.plain_cost T.entries_made model.old script.now (S.taken out.old) (S.taken out.new) (S.faults out.old) (S.faults out.new)) }
+{
+    for step in script {
+        match do_step(alloc, model, step, out, steps) {
+            Ok(()) => {}
+            Err(fault) => return Err(fault),
+        }
+    }
+    Ok(())
+}

@@ -1,0 +1,124 @@
+//! How a run ended, and what is printed of it.
+ghost use Rattle.std.specs.Prelude.{◌≡◌, ◌++◌, ℕ, IfOk, string_bytes, codes, chars, encode_utf8_all};
+ghost use Rattle.tm_app.specs.Status.{status_text, status_code, what_text, usage_text};
+
+use std::alloc::Global;
+use tm_defs::memory::OutOfMemory;
+use tm_defs::texts::Name;
+
+/// What is wrong with a file.
+#[derive(Clone, Copy, Debug, PartialEq, Eq)]
+pub enum What {
+    /// The file is of a form that is not built yet.
+    NotYet,
+    /// The places of the edit at this line of the script are not in the text.
+    BadPlace(u32),
+}
+
+/// How a run ended. A name is that of the file in which the cause stands.
+#[derive(Drop)]
+pub enum Status {
+    Ok,
+    /// The words are no command.
+    Usage,
+    /// A file of the command could not be read.
+    FileFault(Name),
+    /// A file is refused.
+    Refused(Name, What),
+    /// The output could not be written.
+    SinkFault,
+    OutOfMemory,
+    /// A table of states is full.
+    TableFull,
+}
+
+/// A text as characters.
+pub fn name_of(alloc: Global, text: &str) -> Result<Name, OutOfMemory>
+    ensures { IfOk result (λ name. name ≡ chars text.now) }
+{
+    Ok(Name::new(text.chars().collect(alloc)?))
+}
+
+/// Characters as a text.
+fn text_of(alloc: Global, name: &Name) -> Result<String, OutOfMemory>
+    ensures { IfOk result (λ text. string_bytes text ≡ encode_utf8_all name.now) }
+{
+    let mut text = String::new(alloc);
+    for c in name.as_slice() {
+        text.push(*c)?;
+    }
+    Ok(text)
+}
+
+fn what_line(alloc: Global, what: What) -> Result<String, OutOfMemory>
+    ensures { IfOk result (λ text. string_bytes text ≡ what_text what) }
+{
+    match what {
+        What::NotYet => Ok(String::from_str(alloc, "NotYet\n")?),
+        What::BadPlace(line) => Ok(format!(in alloc; "BadPlace {line}\n")?),
+    }
+}
+
+/// A name between two texts.
+fn around(alloc: Global, first: &str, name: &Name, last: &str) -> Result<String, OutOfMemory>
+    ensures { IfOk result (λ text. string_bytes text ≡ first.now ++ encode_utf8_all name.now ++ last.now) }
+{
+    let mut text = String::from_str(alloc, first)?;
+    let middle = text_of(alloc, name)?;
+    text.push_str(middle.as_str())?;
+    text.push_str(last)?;
+    Ok(text)
+}
+
+fn refused(alloc: Global, name: &Name, what: &str) -> Result<String, OutOfMemory>
+    ensures { IfOk result (λ text. string_bytes text ≡ codes "refused " ++ encode_utf8_all name.now ++ (codes ": " ++ what.now)) }
+{
+    let mut last = String::from_str(alloc, ": ")?;
+    last.push_str(what)?;
+    around(alloc, "refused ", name, last.as_str())
+}
+
+fn usage_line(alloc: Global) -> Result<String, OutOfMemory>
+    ensures { IfOk result (λ text. string_bytes text ≡ usage_text) }
+{
+    Ok(String::from_str(
+        alloc,
+        "usage: tm_prog scan SETTINGS FILE, replay SETTINGS FILE SCRIPT, live SETTINGS FILE SCRIPT, lint SETTINGS, gen N\n",
+    )?)
+}
+
+/// The text of a status with its line break, and nothing at a good end.
+pub fn status_line(alloc: Global, status: &Status) -> Result<String, OutOfMemory>
+    ensures { IfOk result (λ text. string_bytes text ≡ status_text status.now) }
+{
+    match status {
+        Status::Ok => Ok(String::new(alloc)),
+        Status::Usage => usage_line(alloc),
+        Status::FileFault(name) => around(alloc, "cannot read ", name, "\n"),
+        Status::Refused(name, what) => {
+            let last = what_line(alloc, *what)?;
+            refused(alloc, name, last.as_str())
+        }
+        Status::SinkFault => Ok(String::from_str(alloc, "cannot write\n")?),
+        Status::OutOfMemory => Ok(String::from_str(alloc, "out of memory\n")?),
+        Status::TableFull => Ok(String::from_str(alloc, "table full\n")?),
+    }
+}
+
+impl Status {
+    /// The exit status: 0, 2 (usage), 3 (a file could not be read), 4 (a file is refused), 5 (the
+    /// output could not be written), 6 (want of memory) or 8 (a table is full).
+    pub fn code(&self) -> u8
+        ensures { result ≡ status_code self.now }
+    {
+        match self {
+            Status::Ok => 0,
+            Status::Usage => 2,
+            Status::FileFault(_) => 3,
+            Status::Refused(_, _) => 4,
+            Status::SinkFault => 5,
+            Status::OutOfMemory => 6,
+            Status::TableFull => 8,
+        }
+    }
+}

@@ -1,0 +1,303 @@
+//! Whole runs, in memory.
+use crate::outcome;
+use std::alloc::Global;
+use std::test::Fail;
+use tm_outside::honest::HonestSink;
+use tm_outside::memory::{MemFiles, MemSink};
+use tm_outside::sink::Sink;
+
+const SETTINGS: &str = r#"{"settings":[{"grammar":"g"}]}"#;
+
+const WORDS: &str = r#"{"scopeName":"source.t","patterns":[
+ {"match":"let","name":"keyword.t"},
+ {"match":"x","name":"comment.t"}]}"#;
+
+const NESTED: &str = r#"{"scopeName":"source.t","patterns":[
+ {"match":"let","name":"keyword.t"},
+ {"begin":"q","end":"p","name":"comment.t","patterns":[
+  {"match":"s","name":"string.t"},
+  {"begin":"r","end":"p","name":"meta.embedded.t"}]}]}"#;
+
+fn list(alloc: Global, texts: &[&str]) -> Result<Vec<String>, Fail> {
+    let mut list = Vec::new(alloc);
+    for text in texts {
+        list.push(String::from_str(alloc, text)?)?;
+    }
+    Ok(list)
+}
+
+/// The files `s`, `g`, `t` and `e`: settings, grammar, text and script.
+fn files_of(alloc: Global, texts: [&str; 4], failing: &[u32]) -> Result<MemFiles, Fail> {
+    let mut files = Vec::new(alloc);
+    for (name, text) in ["s", "g", "t", "e"].into_iter().zip(texts) {
+        let mut bytes = Vec::new(alloc);
+        bytes.extend_from_slice(text.as_bytes())?;
+        files.push((String::from_str(alloc, name)?, bytes))?;
+    }
+    let mut numbers = Vec::new(alloc);
+    numbers.extend_from_slice(failing)?;
+    Ok(MemFiles::new(files, numbers))
+}
+
+fn sink_of(alloc: Global, failing: &[u32]) -> Result<MemSink, Fail> {
+    let mut numbers = Vec::new(alloc);
+    numbers.extend_from_slice(failing)?;
+    Ok(MemSink::new(Vec::new(alloc), numbers))
+}
+
+/// Plays the script, and tells the status, what was printed, and the text of the status.
+fn replays<S: Sink>(
+    alloc: Global,
+    files: &mut MemFiles,
+    out: &mut S,
+    err: &mut S,
+) -> Result<u8, Fail> {
+    let words = list(alloc, &["replay", "s", "t", "e"])?;
+    Ok(outcome::run(alloc, &words, files, out, err).code())
+}
+
+/// Grammar, text, script, what is printed, and the text of the status: each status by its rule.
+#[test]
+fn scripts_print(rt: HostRuntime) -> Result<(), Fail> {
+    let alloc = rt.alloc();
+    let line = r#"{"step":"line"}"#;
+    let rows: [(&str, &str, &str, &str, u8, &str); 10] = [
+        (
+            WORDS,
+            "let x let",
+            "{\"step\":\"show\"}\n{\"step\":\"line\"}\n{\"step\":\"show\"}\n{\"step\":\"line\"}",
+            "? 0\nline 0\n= 0 0:02008401 4:02008501 5:02008401\nidle\n",
+            0,
+            "",
+        ),
+        (WORDS, "x", "", "", 0, ""),
+        (WORDS, "x", " \t\r\n\n", "", 0, ""),
+        (WORDS, "", line, "line 0\n", 0, ""),
+        (
+            WORDS,
+            "x\n",
+            "{\"step\":\"line\"}\n{\"step\":\"line\"}\r\n \n{\"step\":\"line\"}\n{\"step\":\"show\"}\n",
+            "line 0\nline 1\nidle\n= 0 0:02008501\n= 1 0:02008401\n",
+            0,
+            "",
+        ),
+        // inside q a string and an embedded part, whose end is not that of q
+        (
+            NESTED,
+            "let q let s r s p s p s",
+            "{\"step\":\"line\"}\n{\"step\":\"show\"}",
+            "line 0\n= 0 0:02008401 4:02008501 10:02008601 11:02008501 12:02008401 17:02008501 18:02008601 19:02008501 21:02008401\n",
+            0,
+            "",
+        ),
+        // an edit of the first line reaches as far as the ends differ
+        (
+            NESTED,
+            "q\nlet\np\nlet",
+            "{\"step\":\"line\"}\n{\"step\":\"line\"}\n{\"step\":\"line\"}\n{\"step\":\"line\"}\n{\"step\":\"edit\",\"at\":[0,0,0,1],\"text\":\"x\"}\n{\"step\":\"show\"}\n{\"step\":\"line\"}\n{\"step\":\"line\"}\n{\"step\":\"line\"}\n{\"step\":\"show\"}",
+            "line 0\nline 1\nline 2\nline 3\n? 0\n~ 1 0:02008501\n~ 2 0:02008501\n~ 3 0:02008401\nline 0\nline 1\nline 2\n= 0 0:02008401\n= 1 0:02008401\n= 2 0:02008401\n= 3 0:02008401\n",
+            0,
+            "",
+        ),
+        // lines are joined and split
+        (
+            WORDS,
+            "a\nx\nb",
+            "{\"step\":\"edit\",\"at\":[0,1,2,0],\"text\":\"\"}\n{\"step\":\"line\"}\n{\"step\":\"line\"}\n{\"step\":\"edit\",\"at\":[0,1,0,1],\"text\":\"x\\nxx\\n\"}\n{\"step\":\"show\"}\n{\"step\":\"line\"}\n{\"step\":\"line\"}\n{\"step\":\"line\"}\n{\"step\":\"show\"}",
+            "line 0\nidle\n? 0\n? 1\n? 2\nline 0\nline 1\nline 2\n= 0 0:02008401 1:02008501\n= 1 0:02008501\n= 2 0:02008401\n",
+            0,
+            "",
+        ),
+        // places behind the text, behind a line, and turned round
+        (
+            WORDS,
+            "x",
+            "{\"step\":\"line\"}\n\n{\"step\":\"edit\",\"at\":[1,0,1,0],\"text\":\"\"}\n{\"step\":\"line\"}",
+            "line 0\n",
+            4,
+            "refused e: BadPlace 2\n",
+        ),
+        (
+            WORDS,
+            "x",
+            "{\"step\":\"edit\",\"at\":[0,1,0,1],\"text\":\"\"}\n{\"step\":\"edit\",\"at\":[0,1,0,0],\"text\":\"\"}",
+            "",
+            4,
+            "refused e: BadPlace 1\n",
+        ),
+    ];
+    for (grammar, text, script, printed, code, told) in rows {
+        let mut files = files_of(alloc, [SETTINGS, grammar, text, script], &[])?;
+        let mut out = HonestSink::new(Vec::new(alloc));
+        let mut err = HonestSink::new(Vec::new(alloc));
+        assert_eq!(rt;
+            replays(alloc, &mut files, &mut out, &mut err)?,
+            code,
+            "{script}"
+        );
+        assert_eq!(rt; out.bytes(), printed.as_bytes(), "{script}");
+        assert_eq!(rt; err.bytes(), told.as_bytes(), "{script}");
+    }
+    Ok(())
+}
+
+/// What each file may not be, and the first of them that is told.
+#[test]
+fn other_forms_are_refused(rt: HostRuntime) -> Result<(), Fail> {
+    let alloc = rt.alloc();
+    let rows: [([&str; 4], &str); 14] = [
+        (["", "", "\t", ""], "refused s: NotYet\n"),
+        (["{}", WORDS, "x", ""], "refused s: NotYet\n"),
+        (
+            [r#"{"settings":[]}"#, WORDS, "x", ""],
+            "refused s: NotYet\n",
+        ),
+        (
+            [
+                r#"{"settings":[{"grammar":"g"}],"budget":1000}"#,
+                WORDS,
+                "x",
+                "",
+            ],
+            "refused s: NotYet\n",
+        ),
+        (
+            [
+                r#"{"settings":[{"grammar":"g","theme":"t"}]}"#,
+                WORDS,
+                "x",
+                "",
+            ],
+            "refused s: NotYet\n",
+        ),
+        ([SETTINGS, "", "\x07", "?"], "refused g: NotYet\n"),
+        (
+            [
+                SETTINGS,
+                r#"{"scopeName":"a","patterns":[{"match":"a+"}]}"#,
+                "x",
+                "",
+            ],
+            "refused g: NotYet\n",
+        ),
+        (
+            [
+                SETTINGS,
+                r#"{"scopeName":"a","patterns":[{"match":""}]}"#,
+                "x",
+                "",
+            ],
+            "refused g: NotYet\n",
+        ),
+        (
+            [
+                SETTINGS,
+                r#"{"scopeName":"a","patterns":[{"begin":"a"}]}"#,
+                "x",
+                "",
+            ],
+            "refused g: NotYet\n",
+        ),
+        ([SETTINGS, WORDS, "\x07", "?"], "refused t: NotYet\n"),
+        ([SETTINGS, WORDS, "a\rb", "?"], "refused t: NotYet\n"),
+        ([SETTINGS, WORDS, "é", "?"], "refused t: NotYet\n"),
+        ([SETTINGS, WORDS, "x", "?"], "refused e: NotYet\n"),
+        (
+            [
+                SETTINGS,
+                WORDS,
+                "x",
+                "{\"step\":\"line\"}\n{\"step\":\"force\"}",
+            ],
+            "refused e: NotYet\n",
+        ),
+    ];
+    for (texts, told) in rows {
+        let mut files = files_of(alloc, texts, &[])?;
+        let mut out = sink_of(alloc, &[])?;
+        let mut err = sink_of(alloc, &[])?;
+        assert_eq!(rt;
+            replays(alloc, &mut files, &mut out, &mut err)?,
+            4,
+            "{told}"
+        );
+        assert_eq!(rt; out.bytes(), b"".as_slice(), "{told}");
+        assert_eq!(rt; err.bytes(), told.as_bytes());
+    }
+    Ok(())
+}
+
+/// Reads and writes that fail, by number: the file and the front that each leaves.
+#[test]
+fn faults_of_the_outside_are_told(rt: HostRuntime) -> Result<(), Fail> {
+    let alloc = rt.alloc();
+    let script = "{\"step\":\"line\"}\n{\"step\":\"show\"}\n{\"step\":\"line\"}";
+    let none: &[u32] = &[];
+    let rows: [(&[u32], &[u32], &[u32], u8, &str, &str); 9] = [
+        (none, none, none, 0, "line 0\n= 0 0:02008501\nidle\n", ""),
+        (&[0], none, none, 3, "", "cannot read s\n"),
+        (&[1], none, none, 3, "", "cannot read g\n"),
+        (&[2], none, none, 3, "", "cannot read t\n"),
+        (&[3], none, none, 3, "", "cannot read e\n"),
+        (none, &[0], none, 5, "", "cannot write\n"),
+        (none, &[1], none, 5, "line 0\n", "cannot write\n"),
+        (
+            none,
+            &[2],
+            none,
+            5,
+            "line 0\n= 0 0:02008501\n",
+            "cannot write\n",
+        ),
+        (&[3], none, &[0], 3, "", ""),
+    ];
+    for (reads, writes, tells, code, printed, told) in rows {
+        let mut files = files_of(alloc, [SETTINGS, WORDS, "x", script], reads)?;
+        let mut out = sink_of(alloc, writes)?;
+        let mut err = sink_of(alloc, tells)?;
+        assert_eq!(rt;
+            replays(alloc, &mut files, &mut out, &mut err)?,
+            code,
+            "{told}"
+        );
+        assert_eq!(rt; out.bytes(), printed.as_bytes(), "{told}");
+        assert_eq!(rt; err.bytes(), told.as_bytes(), "{told}");
+    }
+    Ok(())
+}
+
+/// Words that are no command, and names of absent files.
+#[test]
+fn words_choose_the_command(rt: HostRuntime) -> Result<(), Fail> {
+    let alloc = rt.alloc();
+    let usage =
+        "usage: tm_prog scan SETTINGS FILE, replay SETTINGS FILE SCRIPT, live SETTINGS FILE SCRIPT, lint SETTINGS, gen N\n";
+    let rows: [(&[&str], u8, &str); 8] = [
+        (&["replay", "s", "t", "e"], 0, ""),
+        (&[], 2, usage),
+        (&["replay"], 2, usage),
+        (&["replay", "s", "t"], 2, usage),
+        (&["replay", "s", "t", "e", "e"], 2, usage),
+        (&["Replay", "s", "t", "e"], 2, usage),
+        (&["replay", "no", "t", "e"], 3, "cannot read no\n"),
+        (&["replay", "s", "no", "e"], 3, "cannot read no\n"),
+    ];
+    for (words, code, told) in rows {
+        let mut files = files_of(alloc, [SETTINGS, WORDS, "x", "{\"step\":\"line\"}"], &[])?;
+        let mut out = sink_of(alloc, &[])?;
+        let mut err = sink_of(alloc, &[])?;
+        let words = list(alloc, words)?;
+        let status = outcome::run(alloc, &words, &mut files, &mut out, &mut err);
+        assert_eq!(rt; status.code(), code, "{told}");
+        assert_eq!(rt;
+            out.bytes(),
+            if code == 0 {
+                b"line 0\n".as_slice()
+            } else {
+                b"".as_slice()
+            }
+        );
+        assert_eq!(rt; err.bytes(), told.as_bytes());
+    }
+    Ok(())
+}

@@ -1,0 +1,10 @@
+pub mod Edits
+pub mod Grammar
+pub mod Json
+pub mod Letters
+pub mod Numbering
+pub mod Rules
+pub mod Script
+pub mod Settings
+pub mod Text
+pub mod Utf8

@@ -1,0 +1,74 @@
+//! The text file. Each byte of it is a character; later forms read UTF-8.
+ghost use Rattle.std.specs.Prelude.{◌≡◌, ◌≤◌, ◌&&◌, length, nat_le};
+ghost use Rattle.std.specs.List.{list_all};
+ghost use Rattle.tm_forms.specs.Text.{text_in, is_text_character, greatest_length};
+ghost use Rattle.tm_forms.specs.Utf8.{without_mark};
+
+use crate::form::Form;
+use crate::{letters, utf8};
+use std::alloc::Global;
+use std::marker::Model;
+use tm_defs::memory::OutOfMemory;
+
+/// The characters of a text, line breaks included.
+#[derive(Drop)]
+pub struct TextFile {
+    chars: Vec<char>,
+}
+
+impl Model for TextFile {
+    ghost use Rattle.std.specs.Prelude.{List, ℕ, ◌≤◌, length};
+    ghost use Rattle.tm_forms.specs.Text.{greatest_length};
+
+    ghost Value = { List ℕ };
+
+    ghost view = { λ a. a.chars.items };
+
+    ghost invariant = { λ a. length a.chars.items ≤ greatest_length };
+}
+
+impl TextFile {
+    /// The characters in order.
+    pub fn as_slice(&self) -> &[char]
+        ensures value { result.now ≡ self.now }
+        ensures short { length result.now ≤ greatest_length }
+    {
+        self.chars.as_slice()
+    }
+}
+
+fn text_byte(byte: u8) -> bool
+    ensures { result ≡ is_text_character byte }
+{
+    byte == b'\t' || byte == b'\n' || (b' ' <= byte && byte <= b'~')
+}
+
+/// Whether each byte may stand in a text file.
+pub(crate) fn all_text(bytes: &[u8]) -> bool
+    ensures { result ≡ list_all is_text_character bytes.now }
+{
+    bytes.iter().all(|byte| text_byte(*byte))
+}
+
+/// Whether a file of so many bytes may be a text or a script.
+pub(crate) fn short(length: usize) -> bool
+    ensures { result ≡ nat_le length greatest_length }
+{
+    length <= 1_000_000
+}
+
+impl Form for TextFile {
+    ghost form = { text_in };
+
+    fn read(alloc: Global, bytes: &[u8]) -> Result<Option<Self>, OutOfMemory> {
+        let text = utf8::skip_mark(bytes);
+        if !short(bytes.len()) {
+            return Ok(None);
+        }
+        if !all_text(text) {
+            return Ok(None);
+        }
+        let chars = letters::chars_of(alloc, text)?;
+        Ok(Some(TextFile { chars }))
+    }
+}

@@ -1,0 +1,40 @@
+-- A worked line: `let (x` under a grammar in which `let` is a keyword (rule 1) and `(` begins a group (rule 2).
+use Rattle.std.specs.Prelude.{ℕ, zero, suc, false, List, [], ◌∷◌}
+use Rattle.tm_defs.specs.declared.tokens.Token.{Token}
+use Rattle.tm_line_run.specs.LineRun.{Place, Winner, Nothing, Begins, Matches, Grammar, opened}
+
+-- the names `r`, `k` and `g` stand for root, keyword and group
+abbrev pub root : List ℕ
+root = 114 ∷ []
+
+abbrev pub keyword : List ℕ
+keyword = 107 ∷ []
+
+abbrev pub group : List ℕ
+group = 103 ∷ []
+
+-- inside the root the keyword is found at 0 to 3, and behind it the group's begin at 4 to 5; inside the group nothing is found
+abbrev pub found : ℕ → ℕ → Winner
+found zero zero = Matches 1 (record { start = 0; end = 3 })
+found zero (suc at) = Begins 2 (record { start = 4; end = 5 })
+found (suc rule) at = Nothing
+
+abbrev pub names : ℕ → List (List ℕ)
+names zero = root ∷ []
+names (suc zero) = keyword ∷ []
+names (suc (suc rule)) = group ∷ []
+
+-- the text is `let (x` and its line break, and each search takes 10 steps
+abbrev pub example : Grammar
+example = record { end = 7; winner = λ frame has_end at. found frame.rule at; cost = λ frame has_end at. 10; names = λ rule m. names rule }
+
+abbrev pub start : Place
+start = record { top = opened 0 (root ∷ []) false; below = []; at = 0 }
+
+-- the metadata of scopes is their number here
+abbrev pub depth : List (List ℕ) → ℕ
+depth [] = 0
+depth (scope ∷ scopes) = suc (depth scopes)
+
+abbrev pub example_tokens : List Token
+example_tokens = record { start = 0; meta = 2 } ∷ record { start = 3; meta = 1 } ∷ record { start = 4; meta = 2 } ∷ []

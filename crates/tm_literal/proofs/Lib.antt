@@ -1,0 +1,13 @@
+pub mod Earliest
+pub mod Forward
+pub mod Least
+pub mod Leftmost
+pub mod Lines
+pub mod Matches
+pub mod Metas
+pub mod Paths
+pub mod Places
+pub mod Starts
+pub mod Tokens
+pub mod Turns
+pub mod Winners

@@ -1,0 +1,10 @@
+pub mod Example
+pub mod Forward
+pub mod Grammar
+pub mod Metadata
+pub mod Ran
+pub mod Search
+pub mod SearchLaws
+pub mod Setting
+pub mod Tokenizing
+pub mod Turned

@@ -1,0 +1,66 @@
+-- Each step of the machine keeps its entries right.
+use Rattle.std.proofs.Common.{◌≡◌, ℕ, zero, suc, ◌+◌, ◌-◌, ◌<◌, ◌≤◌, ◌⊎◌, Bool, true, false, not, List, [], ◌∷◌, ◌++◌, length, take, drop, map, Option, Some, None, refl, sym, ap, ◌∙◌, subst, inl, inr, arith, get_or}
+use Rattle.std.specs.Prelude.{slice_get, position}
+use Rattle.std.proofs.lemmas.List.Quantifiers.{position-Some}
+use Rattle.std.proofs.lemmas.Option.{get_or_from_slice_get}
+use Rattle.tm_defs.specs.declared.changes.Change.{Change}
+use Rattle.tm_defs.specs.declared.events.Step.{Step}
+use Rattle.tm_defs.specs.declared.events.Step.TheVariants as step
+use Rattle.tm_defs.specs.declared.events.Turn.{Turn}
+use Rattle.tm_defs.specs.declared.events.Turn.TheVariants.{Done, Idle, Blocked}
+use Rattle.tm_defs.specs.declared.frames.FrameData.{FrameData}
+use Rattle.tm_machine.specs.declared.entries.Entry.{Entry}
+use Rattle.tm_machine.specs.Changes.{lines_changed, new_lines, effect_of, spliced}
+use Rattle.tm_machine.specs.Entries.{blank, blanks, last_end, replaced, front, AreRight}
+use Rattle.tm_machine.specs.Machine.{Rules, Machine, Answer, Edited, Lined, Steps, Runs, Turns, IsAccurate, machine_of, opening}
+use Rattle.tm_machine.specs.Places.{IsIn, line_at}
+use Rattle.tm_machine.specs.Scratch.{Tokenizing}
+use Rattle.tm_machine.proofs.EntrySteps.{AreRight-stored, AreRight-block, AreRight-spliced, AreRight-blank, AreAccurate-right}
+use Rattle.tm_machine.proofs.TextLines.{lines_some}
+
+not-true : (b : Bool) → not b ≡ true → b ≡ false
+not-true false h = refl
+not-true true h = absurd cc
+
+-- the front is not good
+pub front-bad : (es : List (Entry (List FrameData))) (i : ℕ) (e : Entry (List FrameData)) → front es ≡ Some i → slice_get es i ≡ Some e → e.good ≡ false
+front-bad es i e at there =
+    let bad = (position-Some (λ (x : Entry (List FrameData)). not x.good) es i e at).1 in
+    not-true e.good (ap (λ (x : Entry (List FrameData)). not x.good) (sym (get_or_from_slice_get es i e e there)) ∙ bad)
+
+module _ (k : Tokenizing) (budget : ℕ) where
+  pub AreRight-turn : (lines : List (List ℕ)) (es : List (Entry (List FrameData))) (turn : Turn) (after : List (Entry (List FrameData))) → AreRight k budget opening lines es → Turns k budget lines es turn after → AreRight k budget opening lines after
+  AreRight-turn lines es Idle after h d = subst (AreRight k budget opening lines) (sym d.1) h
+  AreRight-turn lines es (Done i) after h d = subst (AreRight k budget opening lines) (sym d.3) (AreRight-stored k budget opening lines es i d.0 d.1 h d.2.begins d.2.holds)
+  AreRight-turn lines es (Blocked i) after h (inl a) = subst (AreRight k budget opening lines) (sym a.2) h
+  AreRight-turn lines es (Blocked i) after h (inr b) =
+      subst (AreRight k budget opening lines) (sym b.4) (AreRight-block k budget opening lines es i b.0 b.1 h (λ e there. front-bad es i e b.2.at_front there) b.2.begins b.2.holds b.3)
+
+  some-spliced : (n first old : ℕ) (before : Option (List FrameData)) (news lines : List (List ℕ)) (es : List (Entry (List FrameData))) → length news ≡ n → 0 < n → first + suc old ≤ length lines → AreRight k budget before lines es →
+      AreRight k budget before (spliced first (suc old) news lines) (spliced first (suc old) (blanks n (last_end None (take (suc old) (drop first es)))) es)
+  some-spliced zero first old before news lines es l some w h = absurd (omega arith)
+  some-spliced (suc n) first old before news lines es l some w h = AreRight-spliced k budget first old n before news lines es l w h
+
+  -- a change
+  pub AreRight-replaced : (lines : List (List ℕ)) (es : List (Entry (List FrameData))) (c : Change) → IsIn lines c → AreRight k budget opening lines es → AreRight k budget opening (lines_changed lines c) (replaced (effect_of lines c) es)
+  AreRight-replaced lines es c within h =
+      some-spliced (length (new_lines lines c)) c.from_line (c.to_line - c.from_line) opening (new_lines lines c) lines es refl
+      (lines_some false (take c.from_col (line_at lines c.from_line) ++ (c.text ++ drop c.to_col (line_at lines c.to_line))))
+      (omega (arith, within.first, within.last, within.lines_in_order)) h
+
+module _ (r : Rules) where
+  abbrev Right : Machine → Type 0
+  Right m = AreRight (r.setting m.fore.epoch) r.budget opening m.fore.text.lines m.fore.entries
+
+  right-step : (m : Machine) (s : Step) (a : Answer) (n : Machine) → Right m → Steps r m s a n → Right n
+  right-step m (step.Edit c) (Edited version) n h d = subst Right (sym d.2) (AreRight-replaced (r.setting m.fore.epoch) r.budget m.fore.text.lines m.fore.entries c d.0 h)
+  right-step m step.Line (Lined turn) n h d = subst Right (sym d.2) (AreRight-turn (r.setting m.fore.epoch) r.budget m.fore.text.lines m.fore.entries turn d.0 h d.1)
+  right-step m _ _ n h d = absurd d
+
+  right-run : (m : Machine) (xs : List (Step × Answer)) (n : Machine) → Right m → Runs r m xs n → Right n
+  right-run m [] n h d = subst Right (sym d) h
+  right-run m (x ∷ xs) n h d = right-run d.0 xs n (right-step m x.0 x.1 d.0 h d.1) d.2
+
+  pub accurate-run : (lines : List (List ℕ)) (xs : List (Step × Answer)) (m : Machine) → Runs r (machine_of lines) xs m → IsAccurate r m
+  accurate-run lines xs m d =
+      AreAccurate-right (r.setting m.fore.epoch) r.budget m.fore.text.lines m.fore.entries (right-run (machine_of lines) xs m (AreRight-blank (r.setting 0) r.budget opening lines) d)

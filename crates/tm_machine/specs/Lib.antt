@@ -1,0 +1,9 @@
+pub mod Births
+pub mod Changes
+pub mod Entries
+pub mod Machine
+pub mod Places
+pub mod Reach
+pub mod Scratch
+pub mod Settings
+pub mod States

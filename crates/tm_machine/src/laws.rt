@@ -1,0 +1,60 @@
+//! Laws of the definitions. Each function is a theorem: its contract is the law.
+ghost use Rattle.std.specs.Prelude.{◌≡◌, ◌<◌, ℕ, List, Some, None, length, slice_get};
+ghost use Rattle.tm_defs.specs.declared.changes.Change.{Change};
+ghost use Rattle.tm_defs.specs.declared.changes.Place.{Place};
+ghost use Rattle.tm_defs.specs.declared.events.Step.{Step};
+ghost use Rattle.tm_machine.specs.Changes.{BornText, IsBorn, AreIn, changed, changed_by, effects_of, opened, line_after, lines_of, HaveNoBreak};
+ghost use Rattle.tm_machine.specs.Births.{Birth, place_of};
+ghost use Rattle.tm_machine.specs.Entries.{AreRight, AreAccurate, front, start_at};
+ghost use Rattle.tm_machine.specs.Machine.{Rules, Machine, Answer, Runs, IsAccurate, machine_of, opening};
+ghost use Rattle.tm_machine.specs.Places.{IsIn, bad_place};
+ghost use Rattle.tm_machine.specs.Reach.{Stand, IsWithinReach, ReachesMoreThan};
+ghost use Rattle.tm_machine.specs.Scratch.{Tokenizing, state_from_scratch};
+ghost use Rattle.tm_defs.specs.Tables.{Tables, TableEntries, IsNumbering, LacksEntry};
+ghost use Rattle.tm_machine.specs.declared.entries.Entry.{Entry};
+ghost use Rattle.tm_defs.specs.declared.frames.FrameData.{FrameData};
+
+/// The births of one text differ, whatever changes it took.
+pub fn births_differ()
+    ensures opening { (lines : List (List ℕ)) → IsBorn (opened lines) }
+    ensures change { (t : BornText) (c : Change) → IsBorn t → IsIn t.lines c → IsBorn (changed t c) }
+{}
+
+/// The line map through the effects of any changes finds the present place of each birth, and none
+/// where the birth is gone; the line there has the same characters.
+pub fn line_map_finds_births()
+    ensures place { (t : BornText) (cs : List Change) (b : Birth) (i : ℕ) → IsBorn t → AreIn t cs → place_of t.births b ≡ Some i → place_of (changed_by t cs).births b ≡ line_after (effects_of t cs) i }
+    ensures line { (t : BornText) (cs : List Change) (i j : ℕ) → AreIn t cs → line_after (effects_of t cs) i ≡ Some j → slice_get (changed_by t cs).lines j ≡ slice_get t.lines i }
+{}
+
+/// The lines of a text hold no line break, and there is at least one.
+pub fn lines_are_lines()
+    ensures no_break { (cs : List ℕ) → HaveNoBreak (lines_of cs) }
+    ensures some { (cs : List ℕ) → 0 < length (lines_of cs) }
+{}
+
+/// A change whose places are in the text has no bad place, and the other way round.
+pub fn bad_places_are_told()
+    ensures good { (lines : List (List ℕ)) (c : Change) → bad_place lines c ≡ None → IsIn lines c }
+    ensures bad { (lines : List (List ℕ)) (c : Change) (place : Place) → bad_place lines c ≡ Some place → ¬ (IsIn lines c) }
+{}
+
+/// Where each good entry is what its line gives from its start, each accurate one is what
+/// tokenizing the text from its first line gives; and a store without an invalid line is that
+/// tokenizing whole.
+pub fn accurate_is_from_scratch()
+    ensures { (k : Tokenizing) (budget : ℕ) (lines : List (List ℕ)) (es : List (Entry (List FrameData))) → AreRight k budget opening lines es → AreAccurate k lines es }
+{}
+
+/// Whatever steps the machine takes, and however it chooses, what is kept is accurate.
+pub fn every_run_is_accurate()
+    ensures { (r : Rules) (lines : List (List ℕ)) (xs : List (Step × Answer)) (m : Machine) → Runs r (machine_of lines) xs m → IsAccurate r m }
+{}
+
+/// A table that holds only what is reached, and is full for a line, shows that the reach has more
+/// entries of one kind than any number below the table's limit. What the front line makes of a sound
+/// store is reached.
+pub fn full_tables_show_a_large_reach()
+    ensures full { (r : Rules) (stands : List Stand) (t : Tables) (made : TableEntries) (n few : ℕ) → IsNumbering t → IsWithinReach r stands t → few < t.limit → LacksEntry n made t → ReachesMoreThan few r stands }
+    ensures front { (k : Tokenizing) (budget : ℕ) (lines : List (List ℕ)) (es : List (Entry (List FrameData))) (i : ℕ) → AreRight k budget opening lines es → front es ≡ Some i → start_at opening es i ≡ Some (state_from_scratch k lines i) }
+{}

@@ -1,0 +1,16 @@
+pub mod ByLink
+pub mod ChangedModels
+pub mod EntryLists
+pub mod FrontTurns
+pub mod KnownEnds
+pub mod LineReads
+pub mod LineTurns
+pub mod Linked
+pub mod MoreEntries
+pub mod OnePath
+pub mod OneState
+pub mod OneText
+pub mod SoundModels
+pub mod SplitLines
+pub mod StateReads
+pub mod Terms
