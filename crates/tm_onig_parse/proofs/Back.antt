@@ -4,11 +4,10 @@ use Rattle.std.proofs.lemmas.Option.{cond_some}
 use Rattle.std.specs.Prelude.{nat_le, if◌then◌else◌}
 use Rattle.std.proofs.lemmas.Bool.{leb-true}
 use Rattle.tm_onig_class.specs.Tree.{Tree}
-use Rattle.tm_onig_parse.specs.declared.options.Options.{Options}
 use Rattle.tm_onig_parse.specs.declared.groups.Opener.{Opener}
 use Rattle.tm_onig_parse.specs.declared.groups.Opener.TheVariants.{Groups}
 use Rattle.tm_onig_parse.specs.Characters.{no_options}
-use Rattle.tm_onig_parse.specs.Grammar.{Atom, Tok, Toks, Single, Opening, Closing, Bar, Times, Alts, First, Also, Row, Nothing, Then, Piece, Alone, Inside, Repeated, written, written_row, written_piece, count, groups, groups_row, groups_piece}
+use Rattle.tm_onig_parse.specs.Grammar.{Tok, Toks, Single, Opening, Closing, Bar, Times, Alts, First, Also, Row, Nothing, Then, Alone, Inside, Repeated, written, written_row, written_piece, count, groups, groups_row}
 use Rattle.tm_onig_parse.specs.Meaning.{Built, enclosed, rows, parts, built, meaning}
 use Rattle.tm_onig_parse.specs.ClassReading.{◌>>=◌}
 use Rattle.tm_onig_parse.specs.Reading.{Close, Or, Repeats, Level, State, added, level_built, close_in, within, more_times, change_last, step, advancing, finish}

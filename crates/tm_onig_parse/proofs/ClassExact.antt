@@ -7,7 +7,7 @@ use Rattle.tm_onig_parse.specs.declared.classes.Member.{Member}
 use Rattle.tm_onig_parse.specs.declared.classes.Member.TheVariants as M
 use Rattle.tm_onig_parse.specs.Characters.{set_letter, escaped_char}
 use Rattle.tm_onig_parse.specs.Classes.{begins, is_raw, Single, Raw, Slash, single_text, value_of, IsSingle, Item, One, Range, Of, item_text, member_of, IsItem, items_text, AreItems}
-use Rattle.tm_onig_parse.specs.ClassReading.{◌>>=◌, slash_at, single_at, range_to, after_single, letter_at, set_at, or_single, item_at, items_at}
+use Rattle.tm_onig_parse.specs.ClassReading.{◌>>=◌, slash_at, single_at, range_to, after_single, set_at, or_single, item_at, items_at}
 
 pub chosen : {A : Type 0} (b : Bool) (x y z : A) → cond b x y ≡ z → ((b ≡ true) × (x ≡ z)) ⊎ ((b ≡ false) × (y ≡ z))
 chosen true x y z e = inl (refl, e)

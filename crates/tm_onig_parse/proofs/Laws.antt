@@ -12,12 +12,12 @@ use Rattle.tm_onig_parse.specs.Characters.{no_options}
 use Rattle.tm_onig_parse.specs.Grammar.{Tok, Toks, Single, Opening, Closing, Bar, Times, text_of, IsTok, spelling, AreToks, Alts, Nothing, written, groups}
 use Rattle.tm_onig_parse.specs.Meaning.{Built, built, rows, meaning, Spells}
 use Rattle.tm_onig_parse.specs.ClassReading.{◌>>=◌}
-use Rattle.tm_onig_parse.specs.Reading.{Sym, Close, Level, State, start, token_at, step, close_in, finish, read, onward, parsed}
+use Rattle.tm_onig_parse.specs.Reading.{Sym, Level, State, start, token_at, step, close_in, finish, read, onward, parsed}
 use Rattle.tm_onig_parse.specs.Views.{Gives}
 use Rattle.tm_onig_parse.proofs.ClassExact.{bind_ok}
 use Rattle.tm_onig_parse.proofs.Lexing.{sym_of, token_again, token_found, text_length}
 use Rattle.tm_onig_parse.proofs.Heights.{alts_low}
-use Rattle.tm_onig_parse.proofs.Structure.{Runs, kind, level, at, done_of, last_of, alts_run, whole_of}
+use Rattle.tm_onig_parse.proofs.Structure.{Runs, kind, at, done_of, last_of, alts_run, whole_of}
 use Rattle.tm_onig_parse.proofs.Back.{Stack, stack, state_of, stack_written, kind_options, step_back, same_state, Ends, finish_back}
 use Rattle.tm_onig_parse.proofs.Advancing.{takes_wide, wide_takes}
 

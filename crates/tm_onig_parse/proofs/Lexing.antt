@@ -1,10 +1,9 @@
 -- One thing is read exactly as it is spelled.
-use Rattle.std.proofs.Common.{◌≡◌, ℕ, ◌<◌, Bool, true, false, cond, List, [], ◌∷◌, ◌++◌, ◌&&◌, map, length, Option, Some, None, refl, sym, ap, ◌∙◌, subst, inl, inr, ◌⊎◌, arith, length-append, append_assoc}
+use Rattle.std.proofs.Common.{◌≡◌, ℕ, ◌<◌, Bool, true, false, List, [], ◌∷◌, ◌++◌, ◌&&◌, map, length, Option, Some, None, refl, sym, ap, ◌∙◌, subst, inl, inr, arith, length-append}
 use Rattle.std.specs.Prelude.{◌==◌}
-use Rattle.std.proofs.lemmas.Bool.{cases_Bool, ne_eqb, eqb-true, eq-eqb, both_ways}
+use Rattle.std.proofs.lemmas.Bool.{cases_Bool, eqb-true, eq-eqb}
 use Rattle.tm_onig_class.specs.Tree.{Tree}
 use Rattle.tm_onig_parse.specs.declared.options.Options.{Options}
-use Rattle.tm_onig_parse.specs.declared.groups.Opener.{Opener}
 use Rattle.tm_onig_parse.specs.declared.groups.Opener.TheVariants.{Captures, Groups}
 use Rattle.tm_onig_parse.specs.declared.classes.Member.{Member}
 use Rattle.tm_onig_parse.specs.Characters.{single_tree, escape_tree, is_special}
@@ -12,7 +11,7 @@ use Rattle.tm_onig_parse.specs.Classes.{begins, Item, item_text, member_of, item
 use Rattle.tm_onig_parse.specs.Intervals.{NoBounds}
 use Rattle.tm_onig_parse.specs.Grammar.{Atom, Plain, Escaped, Class, atom_text, IsAtom, sign_bounds, Tok, Single, Opening, Closing, Bar, Times, text_of, IsTok}
 use Rattle.tm_onig_parse.specs.Meaning.{atom_built, class_built}
-use Rattle.tm_onig_parse.specs.ClassReading.{◌>>=◌, items_on, signed, class_at}
+use Rattle.tm_onig_parse.specs.ClassReading.{items_on, signed, class_at}
 use Rattle.tm_onig_parse.specs.Reading.{Sym, Means, Open, Close, Or, Repeats, Found, bounds_at, open_at, times_at, means, escape_at, means_class, sign_or, token_at}
 use Rattle.tm_onig_parse.proofs.ClassExact.{chosen, bind_ok, differs, items_found, items_again}
 use Rattle.tm_onig_parse.proofs.BoundsExact.{no_bounds, lacks_bounds}

@@ -2,9 +2,9 @@
 use Rattle.std.proofs.Common.{◌≡◌, ℕ, ◌+◌, ◌≤◌, Bool, List, [], ◌∷◌, ◌++◌, Option, Some, None, refl, sym, ap, ◌∙◌, subst, arith, option_map, le-leb}
 use Rattle.tm_onig_parse.specs.declared.options.Options.{Options}
 use Rattle.tm_onig_parse.specs.declared.groups.Opener.{Opener}
-use Rattle.tm_onig_parse.specs.Grammar.{Toks, Single, Closing, Bar, Times, Alts, First, Also, Row, Nothing, Then, Piece, Alone, Inside, Repeated, written, written_row, written_piece, count, groups, groups_row, groups_piece}
+use Rattle.tm_onig_parse.specs.Grammar.{Toks, Closing, Bar, Times, Alts, First, Also, Row, Nothing, Then, Piece, Alone, Inside, Repeated, written, written_row, written_piece, count, groups, groups_row, groups_piece}
 use Rattle.tm_onig_parse.specs.Meaning.{Built, highest, row_built, alts_built, enclosed, repeated, rows, parts, piece_built}
-use Rattle.tm_onig_parse.specs.Reading.{Open, Close, Repeats, Level, State, added, level_built, within, more_times, change_last, step}
+use Rattle.tm_onig_parse.specs.Reading.{Open, Close, Repeats, Level, State, added, change_last, step}
 use Rattle.tm_onig_parse.proofs.Lexing.{sym_of}
 use Rattle.tm_onig_parse.proofs.Heights.{row_low, alts_low, front_low, last_low, enclosed_low, repeated_low}
 

@@ -1,5 +1,5 @@
 -- Classes as they are written: items between `[`, or `[^`, and `]`.
-use Rattle.std.specs.Prelude.{◌≡◌, ℕ, ◌≤◌, ◌==◌, ◌&&◌, ◌||◌, not, nat_le, Bool, true, false, List, [], ◌∷◌, ◌++◌, map, Option, Some, if◌then◌else◌}
+use Rattle.std.specs.Prelude.{◌≡◌, ℕ, ◌≤◌, ◌==◌, ◌&&◌, ◌||◌, not, nat_le, Bool, true, false, List, [], ◌∷◌, ◌++◌, Some, if◌then◌else◌}
 use Rattle.tm_onig_class.specs.declared.listed.Listed.{Listed}
 use Rattle.tm_onig_parse.specs.declared.classes.Member.{Member}
 use Rattle.tm_onig_parse.specs.declared.classes.Member.TheVariants as M

@@ -3,7 +3,6 @@ use Rattle.std.specs.Prelude.{◌≡◌, ℕ, ◌+◌, ◌≤◌, ◌&&◌, ◌|
 use Rattle.tm_onig_class.specs.Members.{ranges_of}
 use Rattle.tm_onig_class.specs.Tree.{Tree, Empty, InSet, Cat, Alt, Group, Repeat, trees}
 use Rattle.tm_onig_class.specs.Widths.{least_width}
-use Rattle.tm_onig_parse.specs.declared.options.Options.{Options}
 use Rattle.tm_onig_parse.specs.declared.groups.Opener.{Opener}
 use Rattle.tm_onig_parse.specs.declared.groups.Opener.TheVariants.{Captures, Groups}
 use Rattle.tm_onig_parse.specs.declared.classes.Member.{Member}
