@@ -7,12 +7,15 @@ use Rattle.std.proofs.lemmas.Nat.{one_shl}
 use Rattle.std.proofs.lemmas.Nat.Bits.{bit_at_or, bit_at-pow_same, bit_at-pow_other}
 use Rattle.tm_onig_class.specs.Ascii.{has_bit}
 
+-- a bit that is set here
 bit_same : (a b : ℕ) → b ≡ 1 → a < 2 → (max a b == 1) ≡ true
 bit_same a b e lt = grind (arith, nat_tests)
 
+-- a bit that is set elsewhere
 bit_other : (a b : ℕ) → b ≡ 0 → (max a b == 1) ≡ (a == 1)
 bit_other a b e = grind (arith, nat_tests)
 
+-- the table with one more bit
 pub set_bit : (table code i : ℕ) → code < 128 → has_bit (bit_or table (1 * 2 ^ code % 2 ^ 128)) i ≡ (has_bit table i || (i == code))
 set_bit table code i lt =
     ap (λ m. has_bit (bit_or table m) i) (one_shl code 128 lt) ∙ ap (λ b. b == 1) (bit_at_or table (2 ^ code) i)

@@ -16,9 +16,11 @@ record Runs (n : ℕ) (test : ℕ → Bool) (rs : List Range) : Type 0 where
   members : (r : ℕ) → n ≤ r → r ≤ 0x10F7FF → in_ranges rs r ≡ test r
   bounded : AreRanks rs
 
+-- two tests that hold
 both : (a b : Bool) → a ≡ true → b ≡ true → (a && b) ≡ true
 both a b x y = ap₂ ◌&&◌ x y
 
+-- what rises from later on rises from earlier on
 weaker : (n : ℕ) (rs : List Range) → rises_from (suc n) rs ≡ true → rises_from n rs ≡ true
 unfolding rises_from
 weaker n [] h = refl
@@ -27,6 +29,7 @@ weaker n (r ∷ rs) h =
     let fits = fits_from-true (suc n) r parts.0 in
     both _ _ (le-fits_from n r (omega (arith, fits.0)) fits.1 fits.2) parts.1
 
+-- a number in front of what rises after it
 front_rises : (n : ℕ) (rs : List Range) → n ≤ 0x10F7FF → rises_from (suc n) rs ≡ true → rises_from n (add_front n rs) ≡ true
 unfolding rises_from
 front_rises n [] le h = both _ _ (le-fits_from n (n, n) (omega arith) (omega arith) (omega arith)) refl
@@ -40,12 +43,15 @@ front_rises n (r ∷ rs) le h =
           rw apart (both _ _ (le-fits_from n (n, n) (omega arith) (omega arith) (omega arith)) (both _ _ (le-fits_from (n + 2) r (omega (arith, fits.0)) fits.1 fits.2) parts.1))
     ]
 
+-- a number before a range that it touches
 touch_range : (n a b x : ℕ) → a ≡ n + 1 → a ≤ b → (nat_le n x && nat_le x b) ≡ ((n == x) || (nat_le a x && nat_le x b))
 touch_range n a b x e le = grind (arith, nat_tests)
 
+-- a number as a range
 one_number : (n x : ℕ) → (nat_le n x && nat_le x n) ≡ (n == x)
 one_number n x = grind (arith, nat_tests)
 
+-- the members with a number in front
 front_members : (n : ℕ) (rs : List Range) (x : ℕ) → rises_from (suc n) rs ≡ true → in_ranges (add_front n rs) x ≡ ((n == x) || in_ranges rs x)
 unfolding in_ranges in_range rises_from
 front_members n [] x h = ap (λ t. t || false) (one_number n x)
@@ -56,9 +62,11 @@ front_members n (r ∷ rs) x h =
       | inr apart ↦ rw apart (ap (λ t. t || ((nat_le r.0 x && nat_le x r.1) || in_ranges rs x)) (one_number n x))
     ]
 
+-- what rises after a number lacks it
 not_before : (n : ℕ) (rs : List Range) → rises_from (suc n) rs ≡ true → in_ranges rs n ≡ false
 not_before n rs h = in_ranges-outside rs n (λ k hk. inl (omega (arith, (rises_from-at (suc n) rs k h hk).0)))
 
+-- one number more, which passes
 passing : (n : ℕ) (test : ℕ → Bool) (rs : List Range) → n ≤ 0x10F7FF → test n ≡ true → Runs (suc n) test rs → Runs n test (add_front n rs)
 passing n test rs le is runs = record {
   rises = front_rises n rs le runs.rises;
@@ -71,6 +79,7 @@ passing n test rs le is runs = record {
   bounded = λ r h. ⊎_elim (λ same. let e = eqb-true n r same in omega arith) (runs.bounded r) (or_cases _ _ (sym (front_members n rs r runs.rises) ∙ h));
 }
 
+-- one number more, which does not
 failing : (n : ℕ) (test : ℕ → Bool) (rs : List Range) → test n ≡ false → Runs (suc n) test rs → Runs n test rs
 failing n test rs not_so runs = record {
   rises = weaker n rs runs.rises;
@@ -83,6 +92,7 @@ failing n test rs not_so runs = record {
   bounded = runs.bounded;
 }
 
+-- the numbers before, one by one
 all_runs : (n : ℕ) (test : ℕ → Bool) (rs : List Range) → n ≤ 0x10F800 → Runs n test rs → Runs 0 test (runs_below n test rs)
 unfolding runs_below
 all_runs zero test rs le runs = runs
@@ -91,6 +101,7 @@ all_runs (suc n) test rs le runs = all_runs n test _ (omega arith) (elim (cases_
   | inr not_so ↦ rw not_so (failing n test rs not_so runs)
 ])
 
+-- past the last rank nothing is left
 none_yet : (test : ℕ → Bool) → Runs 0x10F800 test []
 unfolding rises_from
 none_yet test = record {
@@ -99,6 +110,7 @@ none_yet test = record {
   bounded = λ r h. absurd (both_ways _ (in_ranges-nil r) h);
 }
 
+-- the character of its rank
 char_of-rank_of : (c : ℕ) → IsChar c → char_of (rank_of c) ≡ c
 char_of-rank_of c is = grind (arith, nat_tests)
 

@@ -6,14 +6,17 @@ use Rattle.ucd_sets.specs.Loose.{loosely, value_named, normalize}
 use Rattle.ucd_sets.specs.Names.{script_names}
 use Rattle.tm_onig_class.specs.Named.{is_short_script, long_rows}
 
+-- the rows whose names are not refused
 unfoldable without : {V : Type 0} → (List ℕ → Bool) → List (List ℕ × V) → List (List ℕ × V)
 without refused [] = []
 without refused (r ∷ rows) = cond (refused r.0) (without refused rows) (r ∷ without refused rows)
 
+-- the rows with long names are those not refused
 rows_same : loosely (long_rows 0 script_names) ≡ without is_short_script (loosely script_names)
 unfolding long_rows script_names normalize without
 rows_same = refl
 
+-- a name is found among the rest where it is not refused
 found_without : {V : Type 0} (refused : List ℕ → Bool) (rows : List (List ℕ × V)) (name : List ℕ) → value_named (without refused rows) name ≡ cond (refused name) None (value_named rows name)
 unfolding without value_named
 found_without refused [] name = elim (cases_Bool (refused name)) [ inl is ↦ rw is refl | inr free ↦ rw free refl ]

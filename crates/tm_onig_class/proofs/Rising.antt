@@ -10,15 +10,19 @@ use Rattle.tm_onig_class.proofs.Members.{has_char-ranks}
 use Rattle.regex_class.specs.Ranges.{IsCanonical}
 use Rattle.tm_onig_class.specs.Members.{next_char, is_char, is_range_from, ranges_rise}
 
+-- a rank has a character
 char_is : (r : ℕ) → r ≤ 0x10F7FF → is_char (char_of r) ≡ true
 char_is r le = grind (arith, nat_tests)
 
+-- characters are in the order of ranks
 chars_le : (a b : ℕ) → a ≤ b → char_of a ≤ char_of b
 chars_le a b le = grind (arith, nat_tests)
 
+-- ranks that do not touch have characters that do not
 after_gap : (a b : ℕ) → a + 2 ≤ b → next_char (char_of a) + 1 ≤ char_of b
 after_gap a b le = grind (arith, nat_tests)
 
+-- two tests that hold
 both : (a b : Bool) → a ≡ true → b ≡ true → (a && b) ≡ true
 both a b x y = ap₂ ◌&&◌ x y
 
@@ -27,6 +31,7 @@ last_is : (r : Range) (rs : List Range) → r.0 ≤ r.1 → in_ranges (r ∷ rs)
 unfolding in_ranges in_range
 last_is r rs le = or_left _ _ (both _ _ (le-leb r.0 r.1 le) (le-leb r.1 r.1 (omega arith)))
 
+-- ranges of characters rise as those of ranks do
 rises : (n from : ℕ) (rs : List Range) → rises_from n rs ≡ true → ((b : ℕ) → n ≤ b → from ≤ char_of b) → AreRanks rs → ranges_rise from (chars_of rs) ≡ true
 unfolding rises_from ranges_rise
 rises n from [] h starts ranks = refl
@@ -38,12 +43,15 @@ rises n from (r ∷ rs) h starts ranks =
     (both _ _ (both _ _ (char_is r.0 (omega (arith, fits.1))) (char_is r.1 last)) (both _ _ (le-leb from (char_of r.0) (starts r.0 fits.0)) (le-leb (char_of r.0) (char_of r.1) (chars_le r.0 r.1 fits.1))))
     (rises (r.1 + 2) (next_char (char_of r.1) + 1) rs parts.1 (after_gap r.1) (λ x m. ranks x (in_ranges-cons r rs x ∙ or_right _ _ m)))
 
+-- the ranges of a class rise
 pub canonical-rises : (rs : List Range) → rises_from 0 rs ≡ true → AreRanks rs → ranges_rise 0 (chars_of rs) ≡ true
 canonical-rises rs h ranks = rises 0 0 rs h (λ b le. omega arith) ranks
 
+-- a rank has a character
 char_of-IsChar : (r : ℕ) → r ≤ 0x10F7FF → IsChar (char_of r)
 char_of-IsChar r le = grind (arith, nat_tests)
 
+-- the rank of its character
 rank_of-char_of : (r : ℕ) → rank_of (char_of r) ≡ r
 rank_of-char_of r = grind (arith, nat_tests)
 

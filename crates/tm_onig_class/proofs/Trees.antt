@@ -9,6 +9,7 @@ use Rattle.tm_onig_class.specs.declared.patterns.Pattern.TheFolds.{fold-roll-Pat
 use Rattle.tm_onig_class.specs.declared.patterns.Pattern.TheVariants as P
 use Rattle.tm_onig_class.specs.Tree.{Tree, Empty, Char, Any, InSet, Cat, Alt, Group, Atomic, Repeat, Look, Back, Holds, trees, node_tree, tree_of}
 
+-- the tree of this kind of pattern
 pub tree_of-Empty : tree_of P.Empty ≡ Empty
 tree_of-Empty = ap tree_of (sym P.rolls-Empty) ∙ fold-roll-Pattern Tree node_tree Pattern-F.Empty
 

@@ -7,11 +7,13 @@ use Rattle.regex_class.proofs.RangesLemmas.{in_ranges-nil, in_ranges-push, or_as
 use Rattle.tm_onig_parse.specs.declared.classes.Member.{Member}
 use Rattle.tm_onig_parse.specs.Classes.{member_has, members_have}
 
+-- what two lists have
 members_have-append : (xs ys : List Member) (c : ℕ) → members_have (xs ++ ys) c ≡ (members_have xs c || members_have ys c)
 unfolding members_have
 members_have-append [] ys c = refl
 members_have-append (x ∷ xs) ys c = ap (λ b. member_has x c || b) (members_have-append xs ys c) ∙ or_assoc (member_has x c) (members_have xs c) (members_have ys c)
 
+-- what one item more has
 members_have-more : (ms : List Member) (i c : ℕ) (d : Member) → i < length ms →
     members_have (take (i + 1) ms) c ≡ (members_have (take i ms) c || member_has (get_or ms i d) c)
 unfolding members_have
@@ -19,6 +21,7 @@ members_have-more ms i c d h =
     ap (λ l. members_have l c) (take_more ms i d h) ∙ members_have-append (take i ms) (get_or ms i d ∷ []) c
     ∙ ap (λ b. members_have (take i ms) c || b) (or-false _)
 
+-- the last of three may come first
 or_middle : (x y z : Bool) → ((x || y) || z) ≡ ((x || z) || y)
 or_middle true y z = refl
 or_middle false true true = refl

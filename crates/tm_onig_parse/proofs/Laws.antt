@@ -21,6 +21,7 @@ use Rattle.tm_onig_parse.proofs.Structure.{Runs, kind, at, done_of, last_of, alt
 use Rattle.tm_onig_parse.proofs.Back.{Stack, stack, state_of, stack_written, kind_options, step_back, same_state, Ends, finish_back}
 use Rattle.tm_onig_parse.proofs.Advancing.{takes_wide, wide_takes}
 
+-- what follows is the same
 pub bind_same : {A B : Type 0} (o : Option A) (f g : A → Option B) → ((x : A) → o ≡ Some x → f x ≡ g x) → (o >>= f) ≡ (o >>= g)
 bind_same None f g h = refl
 bind_same (Some x) f g h = h x refl
@@ -30,14 +31,17 @@ map_opened : (o : Option (List Built)) (f : List Built → State) (n : ℕ) → 
 map_opened None f n h next e = absurd cc
 map_opened (Some r) f n h next e = ap (λ (s : State). s.opened) (sym (same_state _ _ e)) ∙ h r
 
+-- the count stays
 bind_opened : (o : Option Built) (f : Built → State) (n : ℕ) → ((r : Built) → (f r).opened ≡ n) → (next : State) → (o >>= λ b. Some (f b)) ≡ Some next → next.opened ≡ n
 bind_opened None f n h next e = absurd cc
 bind_opened (Some r) f n h next e = ap (λ (s : State). s.opened) (sym (same_state _ _ e)) ∙ h r
 
+-- a `)` opens none
 close_few : (outer : List Level) (top : Level) (n : ℕ) (next : State) → close_in outer top n ≡ Some next → next.opened ≡ n
 close_few [] top n next e = absurd cc
 close_few (l ∷ outer) top n next e = bind_opened _ _ n (λ r. refl) next e
 
+-- no step goes beyond the limit
 step_few : (k : Tok) (s next : State) → s.opened ≤ 1000 → step (sym_of k) s ≡ Some next → next.opened ≤ 1000
 unfolding step
 step_few (Single a) s next few e = let at = ap (λ (s : State). s.opened) (same_state _ _ e) in omega arith
@@ -48,11 +52,13 @@ step_few Closing s next few e = omega (arith, close_few s.outer s.top s.opened n
 step_few Bar s next few e = let at = ap (λ (s : State). s.opened) (same_state _ _ e) in omega arith
 step_few (Times sign least greatest greedy) s next few e = omega (arith, map_opened _ _ s.opened (λ r. refl) next e)
 
+-- one turn
 pub read_one : (n : ℕ) (s : State) (t : List ℕ) → 0 < length t → read (suc n) s t ≡ (token_at s.top.options t >>= λ y. step y.0 s >>= λ next. read n next y.1)
 unfolding read
 read_one n s [] some = absurd (omega arith)
 read_one n s (c ∷ t) some = refl
 
+-- What is written is read to the end of its run.
 read_again : (ks : Toks) (n : ℕ) (s t : State) → length (spelling ks) ≤ n → AreToks ks → Runs ks s t → read n s (spelling ks) ≡ finish t
 unfolding read
 read_again [] zero s t a are runs = ap finish runs
@@ -65,12 +71,14 @@ read_again (k ∷ ks) (suc n) s t a are runs =
     read_one n s (text_of k.0 ++ spelling ks) (omega arith)
     ∙ (rw (token, runs.2) (read_again ks n runs.0 t (omega arith) are.1 runs.3))
 
+-- The text is spelled by things that end what was written.
 record Found (s : Stack) (t : List ℕ) (tree : Tree) : Type 0 where
   toks : Toks
   whole : t ≡ spelling toks
   are : AreToks toks
   ends : Ends s toks tree
 
+-- one thing in front
 one_more : (s to : Stack) (k : Tok) (t rest : List ℕ) (tree : Tree) → stack_written to ≡ stack_written s ++ (k, no_options) ∷ [] →
     t ≡ text_of k ++ rest → IsTok k no_options rest → Found to rest tree → Found s t tree
 one_more s to k t rest tree toks whole is more = record {
@@ -91,6 +99,7 @@ one_more s to k t rest tree toks whole is more = record {
 at_stack : (n : ℕ) (next to : State) (rest : List ℕ) (tree : Tree) → next ≡ to → next.opened ≤ 1000 → read n next rest ≡ Some tree → (to.opened ≤ 1000) × (read n to rest ≡ Some tree)
 at_stack n next to rest tree is few e = (subst (λ (x : State). x.opened ≤ 1000) is few, subst (λ (x : State). read n x rest ≡ Some tree) is e)
 
+-- What is read to its end was spelled so.
 read_found : (n : ℕ) (s : Stack) (t : List ℕ) (tree : Tree) → (state_of s).opened ≤ 1000 → read n (state_of s) t ≡ Some tree → Found s t tree
 unfolding read
 read_found zero s [] tree few e = record { toks = []; whole = refl; are = tt; ends = finish_back s.outer s.top.before s.top.row tree few e }
@@ -106,6 +115,7 @@ read_found (suc n) s (c ∷ t) tree few e =
     let left = at_stack n w.0 (state_of went.to) b.0.1 tree went.is few_next w.2 in
     one_more s went.to r.tok (c ∷ t) b.0.1 tree went.whole r.whole r.is (read_found n went.to b.0.1 tree left.0 left.1)
 
+-- nothing written yet
 abbrev none : Stack
 none = stack [] None Nothing
 
@@ -130,6 +140,7 @@ parsed_found t tree e =
     long_enough true is e = (leb-true _ _ is, e)
     long_enough false is e = absurd cc
 
+-- the end of the run gives the meaning
 finished : (alts : Alts) → (built alts).height ≤ 200 → (built alts).takes ≡ true →
     finish (at [] (kind Groups 0 no_options) (done_of alts 0) (last_of alts 0) (0 + groups alts)) ≡ Some (meaning alts)
 finished alts low takes = rw (whole_of, le-leb (built alts).height 200 low, takes) refl
@@ -142,6 +153,7 @@ parsed_only t alts s =
     ∙ finished alts s.shallow (takes_wide alts s.advances) in
     rw (le-leb (length t) 65536 s.short) reads
 
+-- the same of what the program answers
 pub found_in : (t : List ℕ) (r : Result Pattern ParseFault) → Gives tree_of r (parsed t) → IfOk r (λ pattern. (alts : Alts) × Spells t alts × (tree_of pattern ≡ meaning alts))
 found_in t (Ok pattern) e = parsed_found t (tree_of pattern) e
 found_in t (Err fault) e = tt

@@ -13,17 +13,21 @@ abbrev pub Runs : Toks → State → State → Type 0
 Runs [] s t = s ≡ t
 Runs (k ∷ ks) s t = (next : State) × (s.top.options ≡ k.1) × (step (sym_of k.0) s ≡ Some next) × Runs ks next t
 
+-- one run behind another
 runs_on : (ks ls : Toks) (s t u : State) → Runs ks s t → Runs ls t u → Runs (ks ++ ls) s u
 runs_on [] ls s t u e f = subst (λ (v : State). Runs ls v u) (sym e) f
 runs_on (k ∷ ks) ls s t u e f = (e.0, e.1, e.2, runs_on ks ls e.0 t u e.3 f)
 
+-- a run to the same state
 runs_to : (ks : Toks) (s t u : State) → Runs ks s t → t ≡ u → Runs ks s u
 runs_to ks s t u e f = subst (λ (v : State). Runs ks s v) f e
 
+-- two changes in one
 map_twice : {A B C : Type 0} (g : B → C) (f : A → B) (o : Option A) → option_map g (option_map f o) ≡ option_map (λ x. g (f x)) o
 map_twice g f None = refl
 map_twice g f (Some x) = refl
 
+-- the last of a list that ends with it
 pub change_last-snoc : (f : Built → Option Built) (ts : List Built) (t : Built) → change_last f (ts ++ t ∷ []) ≡ option_map (λ u. ts ++ u ∷ []) (f t)
 unfolding change_last
 change_last-snoc f [] t = refl
@@ -37,12 +41,15 @@ pub record Kind : Type 0 where
   pub number : ℕ
   pub options : Options
 
+-- the same, by its fields
 abbrev pub kind : Opener → ℕ → Options → Kind
 kind opener number options = record { opener = opener; number = number; options = options }
 
+-- a level of this kind
 abbrev pub level : Kind → List Built → List Built → Level
 level k done row = record { opener = k.opener; number = k.number; options = k.options; done = done; row = row }
 
+-- a state with this top
 abbrev pub at : List Level → Kind → List Built → List Built → ℕ → State
 at outer k done row opened = record { outer = outer; top = level k done row; opened = opened }
 
@@ -51,29 +58,35 @@ abbrev pub done_of : Alts → ℕ → List Built
 done_of (First row) n = []
 done_of (Also alts row) n = rows alts n
 
+-- the parts of the last alternative
 abbrev pub last_of : Alts → ℕ → List Built
 last_of (First row) n = parts row n
 last_of (Also alts row) n = parts row (n + groups alts)
 
+-- both together are the alternatives
 pub whole_of : (a : Alts) (n : ℕ) → done_of a n ++ row_built (last_of a n) ∷ [] ≡ rows a n
 whole_of (First row) n = refl
 whole_of (Also alts row) n = refl
 
+-- the same count
 pub same_opened : (outer : List Level) (top : Level) (m n : ℕ) → m ≡ n →
     ◌≡◌ {A = State} (record { outer = outer; top = top; opened = m }) (record { outer = outer; top = top; opened = n })
 same_opened outer top m n e = ap (λ k. record { outer = outer; top = top; opened = k }) e
 
+-- an opening
 opens : (j : Opener) (outer : List Level) (k : Kind) (done row : List Built) (n : ℕ) → n + count j ≤ 1000 →
     step (Open j) (at outer k done row n) ≡ Some (at (level k done row ∷ outer) (kind j (n + count j) k.options) [] [] (n + count j))
 unfolding step
 opens j outer k done row n few = rw (le-leb (n + count j) 1000 few) refl
 
+-- a `)`
 closes : (j : Opener) (m : ℕ) (o : Options) (a : Alts) (n : ℕ) (l : Level) (outer : List Level) (opened : ℕ) → (enclosed j m (alts_built (rows a n))).height ≤ 200 →
     step Close (at (l ∷ outer) (kind j m o) (done_of a n) (last_of a n) opened)
     ≡ Some (record { outer = outer; top = added l (enclosed j m (alts_built (rows a n))); opened = opened })
 unfolding step
 closes j m o a n l outer opened low = rw (whole_of, le-leb (enclosed j m (alts_built (rows a n))).height 200 low) refl
 
+-- a quantifier
 goes_on : (least : ℕ) (greatest : Option ℕ) (greedy : Bool) (outer : List Level) (k : Kind) (done row : List Built) (b : Built) (n : ℕ) →
     (repeated least greatest greedy b).height ≤ 200 →
     step (Repeats least greatest greedy) (at outer k done (row ++ b ∷ []) n) ≡ Some (at outer k done (row ++ repeated least greatest greedy b ∷ []) n)

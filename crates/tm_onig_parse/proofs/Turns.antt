@@ -23,6 +23,7 @@ read_enough (suc n) (suc m) s (c ∷ t) a b =
     let shorter = token_shorter s.top.options (c ∷ t) y.0 y.1 is in
     read_enough n m next y.1 (omega arith) (omega arith)))
 
+-- one turn
 onward_one : (s : State) (t : List ℕ) → 0 < length t → onward s t ≡ (token_at s.top.options t >>= λ y. step y.0 s >>= λ next. onward next y.1)
 onward_one s [] some = absurd (omega arith)
 onward_one s (c ∷ t) some =
@@ -31,17 +32,21 @@ onward_one s (c ∷ t) some =
     let shorter = token_shorter s.top.options (c ∷ t) y.0 y.1 is in
     read_enough (length t) (length y.1) next y.1 (omega arith) (omega arith)))
 
+-- where nothing is read there is no tree
 pub token_fails : (fault : ParseFault) (s : State) (t : List ℕ) (all : Option Tree) → 0 < length t → onward s t ≡ all → Fails fault (token_at s.top.options t) → Fails fault all
 token_fails Unreadable s t all some is e = sym is ∙ onward_one s t some ∙ (rw e refl)
 token_fails OutOfMemory s t all some is e = tt
 
+-- where a step fails there is no tree
 pub step_fails : (fault : ParseFault) (s : State) (t : List ℕ) (y : Sym) (rest : List ℕ) (all : Option Tree) → 0 < length t → onward s t ≡ all → token_at s.top.options t ≡ Some (y, rest) → Fails fault (step y s) → Fails fault all
 step_fails Unreadable s t y rest all some is token e = sym is ∙ onward_one s t some ∙ (rw (token, e) refl)
 step_fails OutOfMemory s t y rest all some is token e = tt
 
+-- the turn with its thing
 pub step_goes : (s next : State) (t : List ℕ) (y : Sym) (rest : List ℕ) (all : Option Tree) → 0 < length t → onward s t ≡ all → token_at s.top.options t ≡ Some (y, rest) → step y s ≡ Some next → onward next rest ≡ all
 step_goes s next t y rest all some is token e = sym (onward_one s t some ∙ (rw (token, e) refl)) ∙ is
 
+-- nothing is left
 pub at_end : (s : State) (t : List ℕ) → length t ≡ 0 → onward s t ≡ finish s
 unfolding read
 at_end s [] e = refl

@@ -56,6 +56,7 @@ escaped_char c =
 abbrev pub letter_tree : Options → Listed × Bool → Tree
 letter_tree o letter = InSet (ranges_of (letter_has letter)) o.fold
 
+-- A set where the letter stands for one, else the character that is meant.
 abbrev pub set_or_char : Options → Option (Listed × Bool) → Option ℕ → Option Tree
 set_or_char o (Some letter) other = Some (letter_tree o letter)
 set_or_char o None (Some c) = Some (Char c o.fold)

@@ -5,6 +5,7 @@ use Rattle.tm_onig_parse.specs.declared.classes.Member.{Member}
 use Rattle.tm_onig_parse.specs.declared.classes.Member.TheVariants as M
 use Rattle.tm_onig_parse.specs.Characters.{set_letter, letter_has, escaped_char}
 
+-- The text begins with the character.
 abbrev pub begins : ℕ → List ℕ → Bool
 begins d [] = false
 begins d (c ∷ t) = c == d
@@ -19,10 +20,12 @@ pub data Single : Type 0 where
   Raw : ℕ → Single
   Slash : ℕ → ℕ → Single
 
+-- How it is spelled.
 abbrev pub single_text : Single → List ℕ
 single_text (Raw c) = c ∷ []
 single_text (Slash c value) = 92 ∷ c ∷ []
 
+-- The character that is meant.
 abbrev pub value_of : Single → ℕ
 value_of (Raw c) = c
 value_of (Slash c value) = value
@@ -38,6 +41,7 @@ pub data Item : Type 0 where
   Range : Single → Single → Item
   Of : ℕ → Listed × Bool → Item
 
+-- How it is spelled.
 abbrev pub item_text : Item → List ℕ
 item_text (One s) = single_text s
 item_text (Range a b) = single_text a ++ 45 ∷ single_text b
@@ -63,10 +67,12 @@ AreItems true [] rest = ⊥
 AreItems false [] rest = Unit {0}
 AreItems first (i ∷ is) rest = IsItem first i (items_text is ++ rest) × AreItems false is rest
 
+-- A class, negated or not, with its brackets.
 abbrev pub class_text : Bool → List Item → List ℕ
 class_text true is = 91 ∷ 94 ∷ items_text is
 class_text false is = 91 ∷ items_text is
 
+-- It is one before what follows. A `^` directly behind the `[` would negate it.
 abbrev pub IsClass : Bool → List Item → List ℕ → Type 0
 IsClass true is rest = AreItems true is rest
 IsClass false is rest = (begins 94 (items_text is) ≡ false) × AreItems true is rest
@@ -77,10 +83,12 @@ member_of (One s) = M.Range (value_of s) (value_of s)
 member_of (Range a b) = M.Range (value_of a) (value_of b)
 member_of (Of c letter) = M.Letter letter
 
+-- The character is what the member adds.
 abbrev pub member_has : Member → ℕ → Bool
 member_has (M.Range a b) c = nat_le a c && nat_le c b
 member_has (M.Letter letter) c = letter_has letter c
 
+-- Some member adds it.
 unfoldable pub members_have : List Member → ℕ → Bool
 members_have [] c = false
 members_have (m ∷ ms) c = member_has m c || members_have ms c

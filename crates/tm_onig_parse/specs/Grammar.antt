@@ -16,6 +16,7 @@ pub data Atom : Type 0 where
   Escaped : ℕ → Tree → Atom
   Class : Bool → List Item → Atom
 
+-- How it is spelled.
 abbrev pub atom_text : Atom → List ℕ
 atom_text (Plain c tree) = c ∷ []
 atom_text (Escaped c tree) = 92 ∷ c ∷ []
@@ -49,6 +50,7 @@ pub data Tok : Type 0 where
   Bar : Tok
   Times : ℕ → ℕ → Option ℕ → Bool → Tok
 
+-- How it is spelled.
 abbrev pub text_of : Tok → List ℕ
 text_of (Single a) = atom_text a
 text_of (Opening k) = opener_text k
@@ -57,8 +59,8 @@ text_of Bar = 124 ∷ []
 text_of (Times sign least greatest true) = sign ∷ []
 text_of (Times sign least greatest false) = sign ∷ 63 ∷ []
 
--- It is one that there is, before what follows: a `?` would make `(` the front of another opening,
--- and a greedy quantifier lazy; a `+` would make it possessive, and a lazy one is not.
+-- It is one that there is, before what follows: a `?` behind `(` would begin another opening, a `?`
+-- behind a greedy quantifier would make it lazy, and a `+` possessive.
 abbrev pub IsTok : Tok → Options → List ℕ → Type 0
 IsTok (Single a) o rest = IsAtom a o rest
 IsTok (Opening Captures) o rest = begins 63 rest ≡ false
@@ -70,6 +72,7 @@ IsTok _ o rest = Unit {0}
 abbrev pub Toks : Type 0
 Toks = List (Tok × Options)
 
+-- What they spell together.
 abbrev pub spelling : Toks → List ℕ
 spelling [] = []
 spelling (k ∷ ks) = text_of k.0 ++ spelling ks

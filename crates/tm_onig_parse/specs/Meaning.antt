@@ -18,6 +18,7 @@ pub record Built : Type 0 where
   pub repeated : Bool
   pub takes : Bool
 
+-- What has no parts.
 abbrev pub leaf : Tree → Built
 leaf tree = record { tree = tree; height = 0; repeated = false; takes = nat_lt 0 (least_width tree) }
 
@@ -25,22 +26,27 @@ leaf tree = record { tree = tree; height = 0; repeated = false; takes = nat_lt 0
 abbrev pub class_built : Bool → List Member → Built
 class_built negated ms = record { tree = InSet (ranges_of (class_has negated ms)) false; height = 1; repeated = false; takes = true }
 
+-- What an atom means.
 abbrev pub atom_built : Atom → Built
 atom_built (Plain c tree) = leaf tree
 atom_built (Escaped c tree) = leaf tree
 atom_built (Class negated is) = class_built negated (map member_of is)
 
+-- The tree alone.
 abbrev pub tree_in : Built → Tree
 tree_in b = b.tree
 
+-- How deep the deepest is nested.
 abbrev pub highest : List Built → ℕ
 highest [] = 0
 highest (b ∷ bs) = max b.height (highest bs)
 
+-- One of them takes a character.
 abbrev pub any_takes : List Built → Bool
 any_takes [] = false
 any_takes (b ∷ bs) = b.takes || any_takes bs
 
+-- Each of them takes one.
 abbrev pub all_take : List Built → Bool
 all_take [] = true
 all_take (b ∷ bs) = b.takes && all_take bs
@@ -87,6 +93,7 @@ abbrev mutual
   piece_built (Inside k alts) n = enclosed k (n + count k) (alts_built (rows alts (n + count k)))
   piece_built (Repeated piece sign least greatest greedy) n = repeated least greatest greedy (piece_built piece n)
 
+-- What a pattern means.
 abbrev pub built : Alts → Built
 built alts = alts_built (rows alts 0)
 

@@ -26,9 +26,11 @@ abbrev pub Steps : {X : Type 0} → Result Unit ParseFault → X → Option X �
 Steps (Ok done) new read = read ≡ Some new
 Steps (Err fault) new read = Fails fault read
 
+-- what a part stands for
 abbrev pub built_of : Part → Built
 built_of p = record { tree = tree_of p.pattern; height = p.height; repeated = p.repeated; takes = p.takes }
 
+-- what a token stands for
 abbrev pub sym_of_token : Token → Sym
 sym_of_token (T.Means part) = Means (built_of part)
 sym_of_token (T.Open opener) = Open opener
@@ -36,11 +38,14 @@ sym_of_token T.Close = Close
 sym_of_token T.Or = Or
 sym_of_token (T.Repeats least greatest greedy) = Repeats least greatest greedy
 
+-- what a frame stands for
 abbrev pub level_of_frame : Frame → Level
 level_of_frame f = record { opener = f.opener; number = f.number; options = f.options; done = map built_of f.done.items; row = map built_of f.row.items }
 
+-- what the frames stand for, of which the nearest is the last
 abbrev pub levels_of : List Frame → List Level
 levels_of frames = reverse (map level_of_frame frames)
 
+-- what a reader stands for
 abbrev pub state_of_reader : Reader → State
 state_of_reader r = record { outer = levels_of r.outer.items; top = level_of_frame r.top; opened = r.opened }

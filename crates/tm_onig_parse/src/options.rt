@@ -2,8 +2,8 @@
 ghost use Rattle.std.specs.Prelude.{◌≡◌};
 ghost use Rattle.tm_onig_parse.specs.Characters.{no_options};
 
-/// What holds at a place in a pattern. The reader sets none so far: each holds its place in the
-/// grammar.
+/// What holds at a place in a pattern. None is on anywhere so far: the forms that set them are
+/// unreadable.
 #[derive(Clone, Copy, Debug, PartialEq, Eq)]
 pub struct Options {
     /// `i`: characters match without regard to case.
