@@ -6,3 +6,4 @@ pub mod Listed
 pub mod Named
 pub mod Tree
 pub mod Widths
+pub mod Groups

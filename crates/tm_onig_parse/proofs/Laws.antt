@@ -20,6 +20,8 @@ use Rattle.tm_onig_parse.proofs.Heights.{alts_low}
 use Rattle.tm_onig_parse.proofs.Structure.{Runs, kind, at, done_of, last_of, alts_run, whole_of}
 use Rattle.tm_onig_parse.proofs.Back.{Stack, stack, state_of, stack_written, kind_options, step_back, same_state, Ends, finish_back}
 use Rattle.tm_onig_parse.proofs.Advancing.{takes_wide, wide_takes}
+use Rattle.tm_onig_parse.proofs.Numbering.{spells_numbered}
+use Rattle.tm_onig_class.specs.Groups.{IsNumbered}
 
 -- what follows is the same
 pub bind_same : {A B : Type 0} (o : Option A) (f g : A → Option B) → ((x : A) → o ≡ Some x → f x ≡ g x) → (o >>= f) ≡ (o >>= g)
@@ -157,3 +159,8 @@ parsed_only t alts s =
 pub found_in : (t : List ℕ) (r : Result Pattern ParseFault) → Gives tree_of r (parsed t) → IfOk r (λ pattern. (alts : Alts) × Spells t alts × (tree_of pattern ≡ meaning alts))
 found_in t (Ok pattern) e = parsed_found t (tree_of pattern) e
 found_in t (Err fault) e = tt
+
+-- what is read has its groups numbered
+pub numbered_in : (t : List ℕ) (r : Result Pattern ParseFault) → Gives tree_of r (parsed t) → IfOk r (λ pattern. IsNumbered (tree_of pattern))
+numbered_in t (Ok pattern) e = let found = parsed_found t (tree_of pattern) e in subst IsNumbered (sym found.2) (spells_numbered t found.0 found.1)
+numbered_in t (Err fault) e = tt

@@ -10,3 +10,4 @@ pub mod Advancing
 pub mod Laws
 pub mod Turns
 pub mod Steps
+pub mod Numbering

@@ -6,6 +6,7 @@
 #![tactic(auto)]
 
 ghost use Rattle.std.specs.Prelude.{◌≡◌, IfOk, Some};
+ghost use Rattle.tm_onig_class.specs.Groups.{IsNumbered};
 ghost use Rattle.tm_onig_class.specs.Tree.{tree_of};
 ghost use Rattle.tm_onig_parse.specs.Grammar.{Alts};
 ghost use Rattle.tm_onig_parse.specs.Meaning.{Spells, meaning};
@@ -41,6 +42,8 @@ pub fn parse(alloc: Global, text: &Name) -> Result<Pattern, ParseFault>
     ensures found { IfOk result (λ pattern. (alts : Alts) × Spells text.now alts × (tree_of pattern ≡ meaning alts)) }
     // What is spelled so is read, unless memory runs out.
     ensures only { (alts : Alts) → Spells text.now alts → Gives tree_of result (Some (meaning alts)) }
+    // Its groups are numbered from 1 in the order of their opening.
+    ensures numbered { IfOk result (λ pattern. IsNumbered (tree_of pattern)) }
 {
     reader::read(alloc, text.as_slice())
 }
