@@ -1,0 +1,9 @@
+pub mod Members
+pub mod Alike
+pub mod Codes
+pub mod KitNames
+pub mod Bits
+pub mod Rising
+pub mod LongNames
+pub mod Exact
+pub mod Trees

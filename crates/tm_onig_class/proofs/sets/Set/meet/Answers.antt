@@ -1,0 +1,15 @@
+use Rattle.std.proofs.Common.{ap, ap₂, sym, ◌∙◌, ◌&&◌}
+use Rattle.tm_onig_class.specs.Ranks.{rank_of}
+use Rattle.tm_onig_class.specs.Members.{has_char}
+use Rattle.tm_onig_class.proofs.Members.{has_char-ranks, rank_small, AreRanks-of, ranks_and}
+use Rattle.tm_onig_class.proofs.sets.Set.meet.Goals as goal
+
+pub returns : goal.returns
+returns c = λ x is.
+    ap (λ rs. has_char rs x) c.of_class.ensures ∙ has_char-ranks c.in_ok-class.class.ranges.items x is
+    ∙ c.in_ok-class.ensures (rank_of x) (rank_small x is)
+    ∙ ap₂ ◌&&◌ (sym (has_char-ranks c.self.inside.class.ranges.items x is) ∙ ap (λ rs. has_char rs x) c.self.view_is)
+    (sym (has_char-ranks c.other.inside.class.ranges.items x is) ∙ ap (λ rs. has_char rs x) c.other.view_is)
+
+pub of_class-requires : goal.of_class-requires
+of_class-requires c = AreRanks-of _ _ c.in_ok-class.class.canonical c.in_ok-class.ensures (ranks_and _ _ c.self.invariant.bounded)

@@ -1,0 +1,58 @@
+-- A part is nested at most as deep as what it is a part of.
+use Rattle.std.proofs.Common.{◌≡◌, ℕ, ◌+◌, ◌≤◌, max, Bool, true, false, cond, List, [], ◌∷◌, ◌++◌, Option, arith}
+use Rattle.std.proofs.lemmas.Bool.Decides.{nat_tests}
+use Rattle.tm_onig_parse.specs.declared.groups.Opener.{Opener}
+use Rattle.tm_onig_parse.specs.declared.groups.Opener.TheVariants.{Captures, Groups}
+use Rattle.tm_onig_parse.specs.Meaning.{Built, highest, row_built, alts_built, enclosed, repeated}
+
+-- the second is at most the greater
+max_right : (a b : ℕ) → max a b ≤ 200 → b ≤ 200
+max_right a b h = grind (arith, nat_tests)
+
+-- the first is at most the greater
+max_left : (a b : ℕ) → max a b ≤ 200 → a ≤ 200
+max_left a b h = grind (arith, nat_tests)
+
+-- both bound the greater
+max_both : (a b : ℕ) → a ≤ 200 → b ≤ 200 → max a b ≤ 200
+max_both a b h k = grind (arith, nat_tests)
+
+-- 0 is never the greater
+max_zero : (a : ℕ) → max a 0 ≡ a
+max_zero a = grind (arith, nat_tests)
+
+-- the parts of a row
+pub row_low : (ts : List Built) → (row_built ts).height ≤ 200 → highest ts ≤ 200
+row_low [] h = omega arith
+row_low (t ∷ []) h = rw max_zero h
+row_low (t ∷ u ∷ ts) h = h
+
+-- alternatives
+pub alts_low : (ts : List Built) → (alts_built ts).height ≤ 200 → highest ts ≤ 200
+alts_low [] h = omega arith
+alts_low (t ∷ []) h = rw max_zero h
+alts_low (t ∷ u ∷ ts) h = h
+
+-- those in front
+pub front_low : (xs ys : List Built) → highest (xs ++ ys) ≤ 200 → highest xs ≤ 200
+front_low [] ys h = omega arith
+front_low (x ∷ xs) ys h = max_both x.height (highest xs) (max_left x.height (highest (xs ++ ys)) h) (front_low xs ys (max_right x.height (highest (xs ++ ys)) h))
+
+-- the last
+pub last_low : (xs : List Built) (y : Built) → highest (xs ++ y ∷ []) ≤ 200 → y.height ≤ 200
+last_low [] y h = max_left y.height 0 h
+last_low (x ∷ xs) y h = last_low xs y (max_right x.height (highest (xs ++ y ∷ [])) h)
+
+-- what stands in a group
+pub enclosed_low : (k : Opener) (n : ℕ) (b : Built) → (enclosed k n b).height ≤ 200 → b.height ≤ 200
+enclosed_low Captures n b h = omega arith
+enclosed_low Groups n b h = omega arith
+
+-- one more or none
+at_least : (is : Bool) (h : ℕ) → cond is (h + 1) h ≤ 200 → h ≤ 200
+at_least true h e = omega arith
+at_least false h e = e
+
+-- what is repeated
+pub repeated_low : (least : ℕ) (greatest : Option ℕ) (greedy : Bool) (b : Built) → (repeated least greatest greedy b).height ≤ 200 → b.height ≤ 200
+repeated_low least greatest greedy b h = at_least b.repeated b.height h

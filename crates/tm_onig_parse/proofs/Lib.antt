@@ -1,0 +1,13 @@
+pub mod ClassExact
+pub mod ClassTurns
+pub mod ClassMembers
+pub mod BoundsExact
+pub mod Lexing
+pub mod Heights
+pub mod Structure
+pub mod Back
+pub mod Advancing
+pub mod Laws
+pub mod Turns
+pub mod Steps
+pub mod Numbering

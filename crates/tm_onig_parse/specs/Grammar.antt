@@ -1,0 +1,134 @@
+-- Patterns as they are written. A pattern is made of things that are spelled one after another, each
+-- under the options that hold where it begins; it is a body, and what it means is in `Meaning`.
+use Rattle.std.specs.Prelude.{◌≡◌, ℕ, ◌==◌, Bool, true, false, List, [], ◌∷◌, ◌++◌, ◌+◌, Option, Some, None, if◌then◌else◌}
+use Rattle.tm_onig_class.specs.Tree.{Tree}
+use Rattle.tm_onig_parse.specs.declared.options.Options.{Options}
+use Rattle.tm_onig_parse.specs.declared.groups.Opener.{Opener}
+use Rattle.tm_onig_parse.specs.declared.groups.Opener.TheVariants.{Captures, Groups}
+use Rattle.tm_onig_parse.specs.Characters.{single_tree, escape_tree}
+use Rattle.tm_onig_parse.specs.Classes.{Item, begins, class_text, IsClass}
+use Rattle.tm_onig_parse.specs.Intervals.{NoBounds}
+
+-- What matches by itself: a character or a sign with the tree that it means, the same behind a
+-- backslash, or a class, negated or not.
+pub data Atom : Type 0 where
+  Plain : ℕ → Tree → Atom
+  Escaped : ℕ → Tree → Atom
+  Class : Bool → List Item → Atom
+
+-- How it is spelled.
+abbrev pub atom_text : Atom → List ℕ
+atom_text (Plain c tree) = c ∷ []
+atom_text (Escaped c tree) = 92 ∷ c ∷ []
+atom_text (Class negated is) = class_text negated is
+
+-- It is one under these options, before what follows: a `{` begins no bounds.
+abbrev pub IsAtom : Atom → Options → List ℕ → Type 0
+IsAtom (Plain c tree) o rest = (single_tree o c ≡ Some tree) × (c ≡ 123 → NoBounds rest)
+IsAtom (Escaped c tree) o rest = escape_tree o c ≡ Some tree
+IsAtom (Class negated is) o rest = IsClass negated is rest
+
+-- `(` captures, `(?:` only groups.
+abbrev pub opener_text : Opener → List ℕ
+opener_text Captures = 40 ∷ []
+opener_text Groups = 40 ∷ 63 ∷ 58 ∷ []
+
+-- The bounds of `?`, `*` and `+`.
+unfoldable pub sign_bounds : ℕ → Option (ℕ × Option ℕ)
+sign_bounds c =
+    if c == 63 then Some (0, Some 1)
+    else if c == 42 then Some (0, None)
+    else if c == 43 then Some (1, None)
+    else None
+
+-- The smallest things that are written. The last is a quantifier: its sign, its bounds, and whether
+-- it is greedy.
+pub data Tok : Type 0 where
+  Single : Atom → Tok
+  Opening : Opener → Tok
+  Closing : Tok
+  Bar : Tok
+  Times : ℕ → ℕ → Option ℕ → Bool → Tok
+
+-- How it is spelled.
+abbrev pub text_of : Tok → List ℕ
+text_of (Single a) = atom_text a
+text_of (Opening k) = opener_text k
+text_of Closing = 41 ∷ []
+text_of Bar = 124 ∷ []
+text_of (Times sign least greatest true) = sign ∷ []
+text_of (Times sign least greatest false) = sign ∷ 63 ∷ []
+
+-- It is one that there is, before what follows: a `?` behind `(` would begin another opening, a `?`
+-- behind a greedy quantifier would make it lazy, and a `+` possessive.
+abbrev pub IsTok : Tok → Options → List ℕ → Type 0
+IsTok (Single a) o rest = IsAtom a o rest
+IsTok (Opening Captures) o rest = begins 63 rest ≡ false
+IsTok (Times sign least greatest true) o rest = (sign_bounds sign ≡ Some (least, greatest)) × (begins 63 rest ≡ false) × (begins 43 rest ≡ false)
+IsTok (Times sign least greatest false) o rest = sign_bounds sign ≡ Some (least, greatest)
+IsTok _ o rest = Unit {0}
+
+-- Things in a row, each with the options that hold where it begins.
+abbrev pub Toks : Type 0
+Toks = List (Tok × Options)
+
+-- What they spell together.
+abbrev pub spelling : Toks → List ℕ
+spelling [] = []
+spelling (k ∷ ks) = text_of k.0 ++ spelling ks
+
+-- Each is one that there is, before what follows it.
+abbrev pub AreToks : Toks → Type 0
+AreToks [] = Unit {0}
+AreToks (k ∷ ks) = IsTok k.0 k.1 (spelling ks) × AreToks ks
+
+-- The grammar. A body is what a group holds: alternatives, which are rows of pieces. A piece is an
+-- atom, a group, or a piece with a quantifier behind it.
+mutual
+  pub data Alts : Type 0 where
+    First : Row → Alts
+    Also : Alts → Row → Alts
+
+  pub data Row : Type 0 where
+    Nothing : Row
+    Then : Row → Piece → Row
+
+  pub data Piece : Type 0 where
+    Alone : Atom → Piece
+    Inside : Opener → Alts → Piece
+    Repeated : Piece → ℕ → ℕ → Option ℕ → Bool → Piece
+
+-- What they are written as.
+abbrev mutual
+  pub written : Alts → Options → Toks
+  written (First row) o = written_row row o
+  written (Also alts row) o = written alts o ++ (Bar, o) ∷ written_row row o
+
+  pub written_row : Row → Options → Toks
+  written_row Nothing o = []
+  written_row (Then row piece) o = written_row row o ++ written_piece piece o
+
+  pub written_piece : Piece → Options → Toks
+  written_piece (Alone a) o = (Single a, o) ∷ []
+  written_piece (Inside k alts) o = (Opening k, o) ∷ (written alts o ++ (Closing, o) ∷ [])
+  written_piece (Repeated piece sign least greatest greedy) o = written_piece piece o ++ (Times sign least greatest greedy, o) ∷ []
+
+-- How many capturing groups an opening begins.
+abbrev pub count : Opener → ℕ
+count Captures = 1
+count Groups = 0
+
+-- How many capturing groups there are.
+abbrev mutual
+  pub groups : Alts → ℕ
+  groups (First row) = groups_row row
+  groups (Also alts row) = groups alts + groups_row row
+
+  pub groups_row : Row → ℕ
+  groups_row Nothing = 0
+  groups_row (Then row piece) = groups_row row + groups_piece piece
+
+  pub groups_piece : Piece → ℕ
+  groups_piece (Alone a) = 0
+  groups_piece (Inside k alts) = count k + groups alts
+  groups_piece (Repeated piece sign least greatest greedy) = groups_piece piece

@@ -1,0 +1,111 @@
+-- What a pattern means, and which texts are patterns.
+use Rattle.std.specs.Prelude.{◌≡◌, ℕ, ◌+◌, ◌≤◌, ◌&&◌, ◌||◌, nat_lt, Bool, true, false, List, [], ◌∷◌, ◌++◌, map, max, length, Option, if◌then◌else◌}
+use Rattle.tm_onig_class.specs.Members.{ranges_of}
+use Rattle.tm_onig_class.specs.Tree.{Tree, Empty, InSet, Cat, Alt, Group, Repeat, trees}
+use Rattle.tm_onig_class.specs.Widths.{least_width}
+use Rattle.tm_onig_parse.specs.declared.groups.Opener.{Opener}
+use Rattle.tm_onig_parse.specs.declared.groups.Opener.TheVariants.{Captures, Groups}
+use Rattle.tm_onig_parse.specs.declared.classes.Member.{Member}
+use Rattle.tm_onig_parse.specs.Characters.{no_options}
+use Rattle.tm_onig_parse.specs.Classes.{member_of, class_has}
+use Rattle.tm_onig_parse.specs.Grammar.{Atom, Plain, Escaped, Class, Alts, First, Also, Row, Nothing, Then, Piece, Alone, Inside, Repeated, spelling, AreToks, written, count, groups, groups_row}
+
+-- A tree with how deep its text is nested, whether it is a repetition, and whether each match of it
+-- takes a character.
+pub record Built : Type 0 where
+  pub tree : Tree
+  pub height : ℕ
+  pub repeated : Bool
+  pub takes : Bool
+
+-- What has no parts.
+abbrev pub leaf : Tree → Built
+leaf tree = record { tree = tree; height = 0; repeated = false; takes = nat_lt 0 (least_width tree) }
+
+-- A class is open between its brackets, so it is nested once.
+abbrev pub class_built : Bool → List Member → Built
+class_built negated ms = record { tree = InSet (ranges_of (class_has negated ms)) false; height = 1; repeated = false; takes = true }
+
+-- What an atom means.
+abbrev pub atom_built : Atom → Built
+atom_built (Plain c tree) = leaf tree
+atom_built (Escaped c tree) = leaf tree
+atom_built (Class negated is) = class_built negated (map member_of is)
+
+-- The tree alone.
+abbrev pub tree_in : Built → Tree
+tree_in b = b.tree
+
+-- How deep the deepest is nested.
+abbrev pub highest : List Built → ℕ
+highest [] = 0
+highest (b ∷ bs) = max b.height (highest bs)
+
+-- One of them takes a character.
+abbrev pub any_takes : List Built → Bool
+any_takes [] = false
+any_takes (b ∷ bs) = b.takes || any_takes bs
+
+-- Each of them takes one.
+abbrev pub all_take : List Built → Bool
+all_take [] = true
+all_take (b ∷ bs) = b.takes && all_take bs
+
+-- A row of no parts is empty, of one it is that part.
+abbrev pub row_built : List Built → Built
+row_built [] = leaf Empty
+row_built (t ∷ []) = record { tree = t.tree; height = t.height; repeated = false; takes = t.takes }
+row_built (t ∷ u ∷ ts) = record { tree = Cat (trees (map tree_in (t ∷ u ∷ ts))); height = highest (t ∷ u ∷ ts); repeated = false; takes = any_takes (t ∷ u ∷ ts) }
+
+-- One alternative is itself.
+abbrev pub alts_built : List Built → Built
+alts_built [] = leaf Empty
+alts_built (t ∷ []) = record { tree = t.tree; height = t.height; repeated = false; takes = t.takes }
+alts_built (t ∷ u ∷ ts) = record { tree = Alt (trees (map tree_in (t ∷ u ∷ ts))); height = highest (t ∷ u ∷ ts); repeated = false; takes = all_take (t ∷ u ∷ ts) }
+
+-- What stands in a group, which has this number if it captures.
+abbrev pub enclosed : Opener → ℕ → Built → Built
+enclosed Captures n b = record { tree = Group n b.tree; height = b.height + 1; repeated = false; takes = b.takes }
+enclosed Groups n b = record { tree = b.tree; height = b.height + 1; repeated = false; takes = b.takes }
+
+-- A repetition of what is repeated counts as a group around it.
+abbrev pub repeated : ℕ → Option ℕ → Bool → Built → Built
+repeated least greatest greedy b = record {
+  tree = Repeat b.tree least greatest greedy;
+  height = if b.repeated then b.height + 1 else b.height;
+  repeated = true;
+  takes = nat_lt 0 least && b.takes;
+}
+
+-- What each means where n capturing groups were opened before: groups have numbers in the order of
+-- their opening.
+abbrev mutual
+  pub rows : Alts → ℕ → List Built
+  rows (First row) n = row_built (parts row n) ∷ []
+  rows (Also alts row) n = rows alts n ++ row_built (parts row (n + groups alts)) ∷ []
+
+  pub parts : Row → ℕ → List Built
+  parts Nothing n = []
+  parts (Then row piece) n = parts row n ++ piece_built piece (n + groups_row row) ∷ []
+
+  pub piece_built : Piece → ℕ → Built
+  piece_built (Alone a) n = atom_built a
+  piece_built (Inside k alts) n = enclosed k (n + count k) (alts_built (rows alts (n + count k)))
+  piece_built (Repeated piece sign least greatest greedy) n = repeated least greatest greedy (piece_built piece n)
+
+-- What a pattern means.
+abbrev pub built : Alts → Built
+built alts = alts_built (rows alts 0)
+
+-- The tree of a pattern.
+abbrev pub meaning : Alts → Tree
+meaning alts = (built alts).tree
+
+-- The text is a pattern, written so. Its limits are part of this, and each match takes a character.
+pub record Spells (text : List ℕ) (alts : Alts) : Type 0 where
+  pub whole : text ≡ spelling (written alts no_options)
+  pub are : AreToks (written alts no_options)
+  pub short : length text ≤ 65536
+  pub few_groups : groups alts ≤ 1000
+  pub shallow : (built alts).height ≤ 200
+  pub advances : 1 ≤ least_width (meaning alts)

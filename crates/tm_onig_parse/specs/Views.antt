@@ -1,0 +1,51 @@
+-- What the program's values stand for.
+use Rattle.std.specs.Prelude.{◌≡◌, List, map, reverse, Option, Some, None, Result, Ok, Err}
+use Rattle.tm_onig_class.specs.Tree.{tree_of}
+use Rattle.tm_onig_parse.specs.Meaning.{Built}
+use Rattle.tm_onig_parse.specs.Reading.{Sym, Means, Open, Close, Or, Repeats, Level, State}
+use Rattle.tm_onig_parse.specs.declared.ParseFault.{ParseFault}
+use Rattle.tm_onig_parse.specs.declared.ParseFault.TheVariants.{Unreadable, OutOfMemory}
+use Rattle.tm_onig_parse.specs.declared.tokens.Token.{Token}
+use Rattle.tm_onig_parse.specs.declared.tokens.Token.TheVariants as T
+use Rattle.tm_onig_parse.specs.declared.part.Part.{Part}
+use Rattle.tm_onig_parse.specs.declared.groups.Frame.{Frame}
+use Rattle.tm_onig_parse.specs.declared.reader.Reader.{Reader}
+
+-- It fails as reading fails, unless memory ran out.
+abbrev pub Fails : {Y : Type 0} → ParseFault → Option Y → Type 0
+Fails Unreadable read = read ≡ None
+Fails OutOfMemory read = Unit {0}
+
+-- It is what reading gives, unless memory ran out.
+abbrev pub Gives : {X Y : Type 0} → (X → Y) → Result X ParseFault → Option Y → Type 0
+Gives view (Ok x) read = read ≡ Some (view x)
+Gives view (Err fault) read = Fails fault read
+
+-- A step went as the reading goes, unless memory ran out.
+abbrev pub Steps : {X : Type 0} → Result Unit ParseFault → X → Option X → Type 0
+Steps (Ok done) new read = read ≡ Some new
+Steps (Err fault) new read = Fails fault read
+
+-- what a part stands for
+abbrev pub built_of : Part → Built
+built_of p = record { tree = tree_of p.pattern; height = p.height; repeated = p.repeated; takes = p.takes }
+
+-- what a token stands for
+abbrev pub sym_of_token : Token → Sym
+sym_of_token (T.Means part) = Means (built_of part)
+sym_of_token (T.Open opener) = Open opener
+sym_of_token T.Close = Close
+sym_of_token T.Or = Or
+sym_of_token (T.Repeats least greatest greedy) = Repeats least greatest greedy
+
+-- what a frame stands for
+abbrev pub level_of_frame : Frame → Level
+level_of_frame f = record { opener = f.opener; number = f.number; options = f.options; done = map built_of f.done.items; row = map built_of f.row.items }
+
+-- what the frames stand for, of which the nearest is the last
+abbrev pub levels_of : List Frame → List Level
+levels_of frames = reverse (map level_of_frame frames)
+
+-- what a reader stands for
+abbrev pub state_of_reader : Reader → State
+state_of_reader r = record { outer = levels_of r.outer.items; top = level_of_frame r.top; opened = r.opened }

@@ -1,0 +1,52 @@
+//! The reader of patterns.
+//!
+//! A pattern's text is read once, from left to right, with the groups that are open on a stack of
+//! its own: no call is nested as deep as the text, and what is made is at most 200 deep, so that it
+//! can be let go. The grammar is a definition apart (`specs/Grammar.antt`, `specs/Meaning.antt`).
+#![tactic(auto)]
+
+ghost use Rattle.std.specs.Prelude.{◌≡◌, IfOk, Some};
+ghost use Rattle.tm_onig_class.specs.Groups.{IsNumbered};
+ghost use Rattle.tm_onig_class.specs.Tree.{tree_of};
+ghost use Rattle.tm_onig_parse.specs.Grammar.{Alts};
+ghost use Rattle.tm_onig_parse.specs.Meaning.{Spells, meaning};
+ghost use Rattle.tm_onig_parse.specs.Views.{Gives};
+
+mod class_sets;
+mod classes;
+mod groups;
+mod intervals;
+mod options;
+mod part;
+mod parts;
+mod reader;
+mod tokens;
+
+use std::alloc::Global;
+use tm_defs::texts::Name;
+use tm_onig_class::patterns::Pattern;
+
+/// Why there is no pattern.
+#[derive(Clone, Copy, Debug, PartialEq, Eq)]
+pub enum ParseFault {
+    /// The text is not in the grammar. Only then.
+    Unreadable,
+    OutOfMemory,
+}
+
+/// The pattern that a text spells, after Oniguruma's syntax for Ruby. `Unreadable` comes exactly
+/// where the text is not in the grammar, or beyond its limits: 65,536 characters, 1,000 groups that
+/// capture, 200 groups, classes and repeated quantifiers within one another.
+pub fn parse(alloc: Global, text: &Name) -> Result<Pattern, ParseFault>
+    // What is read is spelled so, and means this tree.
+    ensures found { IfOk result (λ pattern. (alts : Alts) × Spells text.now alts × (tree_of pattern ≡ meaning alts)) }
+    // What is spelled so is read, unless memory runs out.
+    ensures only { (alts : Alts) → Spells text.now alts → Gives tree_of result (Some (meaning alts)) }
+    // Its groups are numbered from 1 in the order of their opening.
+    ensures numbered { IfOk result (λ pattern. IsNumbered (tree_of pattern)) }
+{
+    reader::read(alloc, text.as_slice())
+}
+
+#[cfg(test)]
+mod tests;

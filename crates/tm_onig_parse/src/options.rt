@@ -1,0 +1,26 @@
+//! Options, which say how characters are meant.
+ghost use Rattle.std.specs.Prelude.{◌≡◌};
+ghost use Rattle.tm_onig_parse.specs.Characters.{no_options};
+
+/// What holds at a place in a pattern. None is on anywhere so far: the forms that set them are
+/// unreadable.
+#[derive(Clone, Copy, Debug, PartialEq, Eq)]
+pub struct Options {
+    /// `i`: characters match without regard to case.
+    pub fold: bool,
+    /// `m`: a dot takes a line break too.
+    pub newline: bool,
+    /// `x`: white space is skipped.
+    pub extended: bool,
+}
+
+/// The options that hold at a pattern's beginning.
+pub fn none() -> Options
+    ensures { result ≡ no_options }
+{
+    Options {
+        fold: false,
+        newline: false,
+        extended: false,
+    }
+}

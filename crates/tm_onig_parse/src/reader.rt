@@ -1,0 +1,182 @@
+//! The stack of open groups, and the loop over a text.
+ghost use Rattle.std.specs.Prelude.{◌≡◌, ◌≤◌, ◌+◌, ◌∷◌, Some, map};
+ghost use Rattle.tm_onig_class.specs.Tree.{tree_of};
+ghost use Rattle.tm_onig_parse.specs.Grammar.{count};
+ghost use Rattle.tm_onig_parse.specs.Reading.{step, change_last, more_times, close_in, open_in, finish, start, onward, parsed};
+ghost use Rattle.tm_onig_parse.specs.Views.{Gives, Steps, built_of, level_of_frame, state_of_reader, sym_of_token};
+
+use crate::groups::{Frame, Opener, end_row, fresh, whole};
+use crate::part::Part;
+use crate::parts::{group, push, repeat};
+use crate::tokens::{Token, next_token};
+use crate::{ParseFault, options};
+use std::alloc::Global;
+use std::mem;
+use tm_onig_class::patterns::Pattern;
+
+/// How many characters a pattern has at most.
+const LONGEST: usize = 65_536;
+
+/// How many groups that capture a pattern has at most.
+const MOST_GROUPS: u32 = 1_000;
+
+/// What was read so far.
+#[derive(Drop)]
+pub struct Reader {
+    /// The groups around, the nearest last.
+    pub outer: Vec<Frame>,
+    pub top: Frame,
+    /// How many groups that capture were opened.
+    pub opened: u32,
+}
+
+/// Puts a quantifier behind the last part.
+fn repeat_last(
+    alloc: Global,
+    row: &mut Vec<Part>,
+    least: u32,
+    greatest: Option<u32>,
+    greedy: bool,
+) -> Result<(), ParseFault>
+    ensures { Steps result (map built_of row.new.items) (change_last (more_times least greatest greedy) (map built_of row.old.items)) }
+{
+    let Some(part) = row.pop() else {
+        return Err(ParseFault::Unreadable);
+    };
+    match repeat(alloc, part, least, greatest, greedy) {
+        Ok(whole) => push(row, whole),
+        Err(fault) => Err(fault),
+    }
+}
+
+/// Begins a level inside.
+fn enter(reader: &mut Reader, inner: Frame) -> Result<(), ParseFault>
+    ensures { let old = state_of_reader reader.old in
+        Steps result (state_of_reader reader.new) (Some (record { outer = old.top ∷ old.outer; top = level_of_frame inner; opened = old.opened })) }
+{
+    let outer = mem::replace(&mut reader.top, inner);
+    let Ok(()) = reader.outer.push(outer) else {
+        return Err(ParseFault::OutOfMemory);
+    };
+    Ok(())
+}
+
+/// How many groups that capture an opening begins.
+fn count(opener: Opener) -> u32
+    ensures value { result ≡ count opener }
+    ensures small { result ≤ 1 }
+{
+    match opener {
+        Opener::Captures => 1,
+        Opener::Groups => 0,
+    }
+}
+
+/// Begins a group.
+fn open(alloc: Global, reader: &mut Reader, opener: Opener) -> Result<(), ParseFault>
+    ensures { Steps result (state_of_reader reader.new) (open_in opener (state_of_reader reader.old)) }
+{
+    let more = count(opener);
+    if reader.opened > MOST_GROUPS - more {
+        return Err(ParseFault::Unreadable);
+    }
+    reader.opened += more;
+    let inner = fresh(alloc, opener, reader.opened, reader.top.options);
+    enter(reader, inner)
+}
+
+/// Ends a group.
+fn leave(alloc: Global, reader: &mut Reader) -> Result<(), ParseFault>
+    ensures { let old = state_of_reader reader.old in Steps result (state_of_reader reader.new) (close_in old.outer old.top old.opened) }
+{
+    let Some(outer) = reader.outer.pop() else {
+        return Err(ParseFault::Unreadable);
+    };
+    let inner = mem::replace(&mut reader.top, outer);
+    let opener = inner.opener;
+    let number = inner.number;
+    let body = match whole(alloc, inner) {
+        Ok(body) => body,
+        Err(fault) => return Err(fault),
+    };
+    match group(alloc, opener, number, body) {
+        Ok(part) => push(&mut reader.top.row, part),
+        Err(fault) => Err(fault),
+    }
+}
+
+/// Goes on by one thing.
+#[tactic(auto, unfolding(crate::specs::Reading::step))]
+fn take(alloc: Global, reader: &mut Reader, token: Token) -> Result<(), ParseFault>
+    ensures { Steps result (state_of_reader reader.new) (step (sym_of_token token) (state_of_reader reader.old)) }
+{
+    match token {
+        Token::Means(part) => push(&mut reader.top.row, part),
+        Token::Open(opener) => open(alloc, reader, opener),
+        Token::Close => leave(alloc, reader),
+        Token::Or => end_row(alloc, &mut reader.top),
+        Token::Repeats {
+            least,
+            greatest,
+            greedy,
+        } => repeat_last(alloc, &mut reader.top.row, least, greatest, greedy),
+    }
+}
+
+/// Ends the pattern.
+fn end(alloc: Global, reader: Reader) -> Result<Pattern, ParseFault>
+    ensures { Gives tree_of result (finish (state_of_reader reader)) }
+{
+    let Reader {
+        outer,
+        top,
+        opened: _,
+    } = reader;
+    if !outer.is_empty() {
+        return Err(ParseFault::Unreadable);
+    }
+    match whole(alloc, top) {
+        Ok(part) => {
+            if part.takes {
+                Ok(part.pattern)
+            } else {
+                Err(ParseFault::Unreadable)
+            }
+        }
+        Err(fault) => Err(fault),
+    }
+}
+
+/// The pattern that the text spells, however long it is.
+fn read_all(alloc: Global, text: &[char]) -> Result<Pattern, ParseFault>
+    ensures { Gives tree_of result (onward start text.now) }
+{
+    let mut reader = Reader {
+        outer: Vec::new(alloc),
+        top: fresh(alloc, Opener::Groups, 0, options::none()),
+        opened: 0,
+    };
+    let mut rest = text;
+    while !rest.is_empty() {
+        let (token, after) = match next_token(alloc, reader.top.options, rest) {
+            Ok(found) => found,
+            Err(fault) => return Err(fault),
+        };
+        if let Err(fault) = take(alloc, &mut reader, token) {
+            return Err(fault);
+        }
+        rest = after;
+    }
+    end(alloc, reader)
+}
+
+/// The pattern that the text spells.
+pub fn read(alloc: Global, text: &[char]) -> Result<Pattern, ParseFault>
+    ensures { Gives tree_of result (parsed text.now) }
+{
+    if text.len() <= LONGEST {
+        read_all(alloc, text)
+    } else {
+        Err(ParseFault::Unreadable)
+    }
+}

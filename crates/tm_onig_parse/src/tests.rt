@@ -1,0 +1,315 @@
+ghost use Rattle.std.specs.Prelude.{IfOk, IsTrue, ◌↔◌};
+ghost use Rattle.tm_onig_parse.specs.Grammar.{Alts};
+ghost use Rattle.tm_onig_parse.specs.Meaning.{Spells};
+
+use crate::{ParseFault, parse};
+use std::alloc::{AllocError, Global};
+use std::test::Fail;
+use tm_defs::memory::OutOfMemory;
+use tm_defs::texts::Name;
+use tm_onig_class::patterns::Pattern;
+use tm_onig_class::sets::Set;
+
+/// Whether the text is a pattern.
+fn is_pattern(alloc: Global, text: &Name) -> Result<bool, OutOfMemory>
+    ensures { IfOk result (λ is. IsTrue is ↔ ((alts : Alts) × Spells text.now alts)) }
+{
+    match parse(alloc, text) {
+        Ok(_) => Ok(true),
+        Err(ParseFault::Unreadable) => Ok(false),
+        Err(ParseFault::OutOfMemory) => Err(OutOfMemory),
+    }
+}
+
+fn name(alloc: Global, text: &str) -> Result<Name, AllocError> {
+    let mut chars = Vec::new(alloc);
+    for c in text.chars() {
+        chars.push(c)?;
+    }
+    Ok(Name::new(chars))
+}
+
+// The characters of which a printed set tells its members.
+const PROBES: [char; 15] = [
+    'a', 'b', 'z', 'A', '-', ']', '^', '&', '0', '9', '_', '.', '#', ' ', '\u{E9}',
+];
+
+fn members(alloc: Global, set: &Set) -> Result<String, AllocError> {
+    let mut text = String::new(alloc);
+    for probe in PROBES {
+        if set.has(probe) {
+            text.push(probe)?;
+        }
+    }
+    Ok(text)
+}
+
+fn wait_for<'a>(waiting: &mut Vec<&'a Pattern>, parts: &'a [Pattern]) -> Result<(), AllocError> {
+    for part in parts.iter().rev() {
+        waiting.push(part)?;
+    }
+    Ok(())
+}
+
+/// The tree in one line: a node, and then its parts.
+fn shown(alloc: Global, pattern: &Pattern) -> Result<String, AllocError> {
+    let mut text = String::new(alloc);
+    let mut waiting = Vec::new(alloc);
+    waiting.push(pattern)?;
+    for _ in 0..1_000 {
+        let Some(next) = waiting.pop() else {
+            break;
+        };
+        let word = word(alloc, &mut waiting, next)?;
+        text.push(' ')?;
+        text.push_str(&word)?;
+    }
+    Ok(text)
+}
+
+fn word<'a>(
+    alloc: Global,
+    waiting: &mut Vec<&'a Pattern>,
+    pattern: &'a Pattern,
+) -> Result<String, AllocError> {
+    match pattern {
+        Pattern::Empty => format!(in alloc; "empty"),
+        Pattern::Char { c: '\n', .. } => format!(in alloc; "line-feed"),
+        Pattern::Char { c: '\t', .. } => format!(in alloc; "tab"),
+        Pattern::Char { c, fold: _ } => format!(in alloc; "'{c}"),
+        Pattern::Any { newline: _ } => format!(in alloc; "any"),
+        Pattern::Set { set, fold: _ } => {
+            let members = members(alloc, set)?;
+            format!(in alloc; "set[{members}]")
+        }
+        Pattern::Cat(parts) => {
+            wait_for(waiting, parts.as_slice())?;
+            let count = parts.len();
+            format!(in alloc; "row {count}")
+        }
+        Pattern::Alt(parts) => {
+            wait_for(waiting, parts.as_slice())?;
+            let count = parts.len();
+            format!(in alloc; "either {count}")
+        }
+        Pattern::Group { number, body } => {
+            waiting.push(body)?;
+            format!(in alloc; "group {number}")
+        }
+        Pattern::Repeat {
+            body,
+            least,
+            greatest,
+            greedy,
+        } => {
+            waiting.push(body)?;
+            let how = if *greedy { "times" } else { "lazily" };
+            match greatest {
+                Some(greatest) => format!(in alloc; "{how} {least}..{greatest}"),
+                None => format!(in alloc; "{how} {least}.."),
+            }
+        }
+        Pattern::Position(place) => format!(in alloc; "{place:?}"),
+        _ => format!(in alloc; "other"),
+    }
+}
+
+// Each text with its tree behind ` => `, or with nothing there where it is no pattern.
+const TABLE: &str = r"
+# characters and signs
+a => 'a
+ab => row 2 'a 'b
+. => any
+\. => '.
+\n => line-feed
+\t => tab
+\\ => '\
+\é => 'é
+\- => '-
+a] => row 2 'a ']
+a} => row 2 'a '}
+^a$ => row 3 LineStart 'a LineEnd
+\ba\B => row 3 Word 'a NotWord
+# sets
+\d => set[09]
+\D => set[abzA-]^&_.# é]
+\w => set[abzA09_é]
+\W => set[-]^&.# ]
+\s => set[ ]
+\S => set[abzA-]^&09_.#é]
+\h => set[abA09]
+\H => set[z-]^&_.# é]
+# classes
+[ab] => set[ab]
+[^ab] => set[zA-]^&09_.# é]
+[a-z] => set[abz]
+[]a] => set[a]]
+[^]a] => set[bzA-^&09_.# é]
+[a-] => set[a-]
+[-a] => set[a-]
+[--a] => set[aA-]^09_.]
+[\d-z] => set[z-09]
+[a-\d] => set[a-09]
+[a-b-z] => set[abz-]
+[a\]] => set[a]]
+[\-a] => set[a-]
+[\w&] => set[abzA&09_é]
+[\&&] => set[&]
+[a^] => set[a^]
+[&] => set[&]
+[.] => set[.]
+[\t ] => set[ ]
+[\W\s] => set[-]^&.# ]
+# groups and alternatives
+a|b => either 2 'a 'b
+a|b|c => either 3 'a 'b 'c
+(a) => group 1 'a
+(?:a) => 'a
+(a)(b) => row 2 group 1 'a group 2 'b
+((a)b) => group 1 row 2 group 2 'a 'b
+(?:(a)|b)c => row 2 either 2 group 1 'a 'b 'c
+()a => row 2 group 1 empty 'a
+a(?:b|) => row 2 'a either 2 'b empty
+a(?:) => row 2 'a empty
+(ab|c) => group 1 either 2 row 2 'a 'b 'c
+# quantifiers
+a+ => times 1.. 'a
+a+? => lazily 1.. 'a
+ab* => row 2 'a times 0.. 'b
+ab*? => row 2 'a lazily 0.. 'b
+ab? => row 2 'a times 0..1 'b
+ab?? => row 2 'a lazily 0..1 'b
+(?:ab)+ => times 1.. row 2 'a 'b
+ab** => row 2 'a times 0.. times 0.. 'b
+ab??? => row 2 'a times 0..1 lazily 0..1 'b
+^*a => row 2 times 0.. LineStart 'a
+[ab]+ => times 1.. set[ab]
+# braces that begin no bounds
+a{ => row 2 'a '{
+a{x} => row 4 'a '{ 'x '}
+a{,} => row 4 'a '{ ', '}
+{ 1} => row 4 '{ '  '1 '}
+# no match advances by less than one character
+ =>
+a* =>
+a? =>
+^ =>
+\b =>
+a| =>
+a|b* =>
+() =>
+(a*)+ =>
+# bounds, and what else comes later
+a{2} =>
+a{2,} =>
+a{,2} =>
+a{2,3} =>
+a{3,2} =>
+{2}a =>
+(?i)a =>
+(?=a)a =>
+(?<n>a) =>
+(?#c)a =>
+(?>a) =>
+a++ =>
+ab*+ =>
+ab?+ =>
+\A =>
+\za =>
+(a)\1 =>
+\x41 =>
+\p{L} =>
+\a =>
+\Q =>
+[a&&b] =>
+[!-&&b] =>
+[a[b]] =>
+[[:alpha:]] =>
+[\b] =>
+[\x41] =>
+# never patterns
+*a =>
++ =>
+a|*b =>
+(*a) =>
+(a =>
+a) =>
+(?a) =>
+(? =>
+[a =>
+[] =>
+[^] =>
+[b-a] =>
+[a--] =>
+a\ =>
+[\ =>
+";
+
+#[test]
+fn texts_and_trees(rt: HostRuntime) -> Result<(), Fail> {
+    let mut rows = 0_u64;
+    for line in TABLE.lines() {
+        if let Some((text, tree)) = line.split_once(" =>") {
+            rows = rows.wrapping_add(1);
+            let found = match parse(rt.alloc(), &name(rt.alloc(), text)?) {
+                Ok(pattern) => shown(rt.alloc(), &pattern)?,
+                Err(_) => String::new(rt.alloc()),
+            };
+            assert_eq!(rt; found.as_str(), tree, "of {text}");
+        }
+    }
+    assert_eq!(rt; rows, 118);
+    Ok(())
+}
+
+/// So many times the first text, then the second, then so many times the third.
+fn nested(
+    alloc: Global,
+    times: usize,
+    open: &str,
+    inner: &str,
+    close: &str,
+) -> Result<Name, AllocError> {
+    let mut chars = Vec::new(alloc);
+    for _ in 0..times {
+        for c in open.chars() {
+            chars.push(c)?;
+        }
+    }
+    for c in inner.chars() {
+        chars.push(c)?;
+    }
+    for _ in 0..times {
+        for c in close.chars() {
+            chars.push(c)?;
+        }
+    }
+    Ok(Name::new(chars))
+}
+
+// How often, what opens, what stands inside, what closes, and whether it is a pattern.
+const LIMITS: [(usize, &str, &str, &str, bool); 13] = [
+    (200, "(", "a", ")", true),
+    (201, "(", "a", ")", false),
+    (200, "(?:", "a", ")", true),
+    (201, "(?:", "a", ")", false),
+    (199, "(", "[a]", ")", true),
+    (200, "(", "[a]", ")", false),
+    (200, "", "a+?", "+?", true),
+    (201, "", "a+?", "+?", false),
+    (1_000, "(a)", "a", "", true),
+    (1_001, "(a)", "a", "", false),
+    (65_535, "", "a", "a", true),
+    (65_536, "", "a", "a", false),
+    (32_000, "(", "a", ")", false),
+];
+
+#[test]
+fn limits(rt: HostRuntime) -> Result<(), Fail> {
+    for (times, open, inner, close, is) in LIMITS {
+        let text = nested(rt.alloc(), times, open, inner, close)?;
+        let found = is_pattern(rt.alloc(), &text);
+        assert!(rt; found == Ok(is), "{times} of {open}");
+    }
+    Ok(())
+}

@@ -1,0 +1,218 @@
+//! The smallest things that are written, one at a time.
+ghost use Rattle.std.specs.Prelude.{◌≡◌, nat_lt, option_map, Some};
+ghost use Rattle.tm_onig_class.specs.Tree.{tree_of};
+ghost use Rattle.tm_onig_parse.specs.Characters.{single_tree, escape_tree, letter_tree, set_or_char, set_letter, escaped_char};
+ghost use Rattle.tm_onig_parse.specs.Grammar.{sign_bounds};
+ghost use Rattle.tm_onig_parse.specs.Meaning.{leaf};
+ghost use Rattle.tm_onig_parse.specs.ClassReading.{class_at};
+ghost use Rattle.tm_onig_parse.specs.Reading.{token_at, open_at, times_at, escape_at, sign_or, means_class};
+ghost use Rattle.tm_onig_parse.specs.Views.{Gives, sym_of_token, built_of};
+
+use crate::ParseFault;
+use crate::class_sets::{class_part, letter_set};
+use crate::classes::{class, escaped, letter};
+use crate::groups::Opener;
+use crate::intervals::bounds;
+use crate::options::Options;
+use crate::part::Part;
+use crate::parts::leaf;
+use std::alloc::Global;
+use tm_onig_class::listed::Listed;
+use tm_onig_class::patterns::{Pattern, Position};
+
+/// One thing that is written, by what it means.
+#[derive(Drop)]
+pub enum Token {
+    Means(Part),
+    Open(Opener),
+    Close,
+    Or,
+    Repeats {
+        least: u32,
+        greatest: Option<u32>,
+        greedy: bool,
+    },
+}
+
+/// What a character means that stands alone.
+#[tactic(auto, using(tm_onig_class::proofs::Trees::nodes), unfolding(crate::specs::Characters::single_tree, crate::specs::Characters::is_special, tm_onig_class::specs::Widths::least_width))]
+fn single(options: Options, c: char) -> Option<Part>
+    ensures { option_map built_of result ≡ option_map leaf (single_tree options c) }
+{
+    match c {
+        '.' => Some(leaf(
+            Pattern::Any {
+                newline: options.newline,
+            },
+            true,
+        )),
+        '^' => Some(leaf(Pattern::Position(Position::LineStart), false)),
+        '$' => Some(leaf(Pattern::Position(Position::LineEnd), false)),
+        '(' | ')' | '[' | '|' | '?' | '*' | '+' | '\\' => None,
+        _ => Some(leaf(
+            Pattern::Char {
+                c,
+                fold: options.fold,
+            },
+            true,
+        )),
+    }
+}
+
+/// The bounds of a quantifier's sign.
+#[tactic(auto, unfolding(crate::specs::Grammar::sign_bounds))]
+fn sign(c: char) -> Option<(u32, Option<u32>)>
+    ensures { result ≡ sign_bounds c }
+{
+    match c {
+        '?' => Some((0, Some(1))),
+        '*' => Some((0, None)),
+        '+' => Some((1, None)),
+        _ => None,
+    }
+}
+
+/// What follows `(`.
+#[tactic(auto, unfolding(crate::specs::Reading::open_at))]
+fn open(text: &[char]) -> Result<(Token, &[char]), ParseFault>
+    ensures { Gives (λ x. (sym_of_token x.0, x.1.now)) result (open_at text.now) }
+{
+    match text {
+        ['?', ':', rest @ ..] => Ok((Token::Open(Opener::Groups), rest)),
+        ['?', ..] => Err(ParseFault::Unreadable),
+        _ => Ok((Token::Open(Opener::Captures), text)),
+    }
+}
+
+/// What follows a sign with these bounds.
+#[tactic(auto, unfolding(crate::specs::Reading::times_at))]
+fn times(least: u32, greatest: Option<u32>, text: &[char]) -> Result<(Token, &[char]), ParseFault>
+    ensures { Gives (λ x. (sym_of_token x.0, x.1.now)) result (times_at least greatest text.now) }
+{
+    match text {
+        ['?', rest @ ..] => Ok((
+            Token::Repeats {
+                least,
+                greatest,
+                greedy: false,
+            },
+            rest,
+        )),
+        ['+', ..] => Err(ParseFault::Unreadable),
+        _ => Ok((
+            Token::Repeats {
+                least,
+                greatest,
+                greedy: true,
+            },
+            text,
+        )),
+    }
+}
+
+/// The set of a letter.
+#[tactic(auto, using(tm_onig_class::proofs::Trees::nodes), unfolding(tm_onig_class::specs::Widths::least_width))]
+fn letter_part(alloc: Global, options: Options, letter: (Listed, bool)) -> Result<Part, ParseFault>
+    ensures { Gives built_of result (Some (leaf (letter_tree options letter))) }
+{
+    let Ok(set) = letter_set(alloc, letter) else {
+        return Err(ParseFault::OutOfMemory);
+    };
+    set.exact();
+    let fold = options.fold;
+    Ok(leaf(Pattern::Set { set, fold }, true))
+}
+
+/// A set, or the character that an escape stands for.
+#[tactic(auto, using(tm_onig_class::proofs::Trees::nodes), unfolding(tm_onig_class::specs::Widths::least_width))]
+fn set_or_char(alloc: Global, options: Options, c: char) -> Result<Part, ParseFault>
+    ensures { Gives built_of result (option_map leaf (set_or_char options (set_letter c) (escaped_char c))) }
+{
+    if let Some(letter) = letter(c) {
+        return letter_part(alloc, options, letter);
+    }
+    let fold = options.fold;
+    match escaped(c) {
+        Some(c) => Ok(leaf(Pattern::Char { c, fold }, true)),
+        None => Err(ParseFault::Unreadable),
+    }
+}
+
+/// What a character means behind a backslash.
+#[tactic(auto, using(tm_onig_class::proofs::Trees::nodes), unfolding(crate::specs::Characters::escape_tree, tm_onig_class::specs::Widths::least_width))]
+fn escape_part(alloc: Global, options: Options, c: char) -> Result<Part, ParseFault>
+    ensures { Gives built_of result (option_map leaf (escape_tree options c)) }
+{
+    match c {
+        'b' => Ok(leaf(Pattern::Position(Position::Word), false)),
+        'B' => Ok(leaf(Pattern::Position(Position::NotWord), false)),
+        _ => set_or_char(alloc, options, c),
+    }
+}
+
+/// What follows a backslash.
+#[tactic(auto, unfolding(crate::specs::Reading::escape_at))]
+fn escape(alloc: Global, options: Options, text: &[char]) -> Result<(Token, &[char]), ParseFault>
+    ensures { Gives (λ x. (sym_of_token x.0, x.1.now)) result (escape_at options text.now) }
+{
+    match text {
+        [c, rest @ ..] => match escape_part(alloc, options, *c) {
+            Ok(part) => Ok((Token::Means(part), rest)),
+            Err(fault) => Err(fault),
+        },
+        _ => Err(ParseFault::Unreadable),
+    }
+}
+
+/// What follows a `[`.
+fn brackets(alloc: Global, text: &[char]) -> Result<(Token, &[char]), ParseFault>
+    ensures { Gives (λ x. (sym_of_token x.0, x.1.now)) result (means_class (class_at text.now)) }
+{
+    let ((negated, members), rest) = match class(alloc, text) {
+        Ok(found) => found,
+        Err(fault) => return Err(fault),
+    };
+    match class_part(alloc, negated, &members) {
+        Ok(part) => Ok((Token::Means(part), rest)),
+        Err(fault) => Err(fault),
+    }
+}
+
+/// A quantifier's sign, or a character that stands alone, and what follows it. A `{` that begins
+/// bounds is neither.
+fn sign_or(options: Options, c: char, text: &[char]) -> Result<(Token, &[char]), ParseFault>
+    ensures { Gives (λ x. (sym_of_token x.0, x.1.now)) result (sign_or options (sign_bounds c) c text.now) }
+{
+    match sign(c) {
+        Some((least, greatest)) => times(least, greatest, text),
+        None => {
+            if c == '{' && bounds(text) {
+                return Err(ParseFault::Unreadable);
+            }
+            match single(options, c) {
+                Some(part) => Ok((Token::Means(part), text)),
+                None => Err(ParseFault::Unreadable),
+            }
+        }
+    }
+}
+
+/// The first thing of the text, and what follows it.
+#[tactic(auto, unfolding(crate::specs::Reading::token_at))]
+pub fn next_token(
+    alloc: Global,
+    options: Options,
+    text: &[char],
+) -> Result<(Token, &[char]), ParseFault>
+    ensures { Gives (λ x. (sym_of_token x.0, x.1.now)) result (token_at options text.now) }
+{
+    match text {
+        ['(', rest @ ..] => open(rest),
+        [')', rest @ ..] => Ok((Token::Close, rest)),
+        ['|', rest @ ..] => Ok((Token::Or, rest)),
+        ['\\', rest @ ..] => escape(alloc, options, rest),
+        ['[', rest @ ..] => brackets(alloc, rest),
+        [c, rest @ ..] => sign_or(options, *c, rest),
+        [] => Err(ParseFault::Unreadable),
+    }
+}
