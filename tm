@@ -1,10 +1,12 @@
 #!/bin/sh
 # Proves and builds the program on first use, and runs it: ./tm replay SETTINGS FILE SCRIPT
-set -e
-top=$(cd "$(dirname "$0")" && pwd)
+top=$(cd "$(dirname "$0")" && pwd) || exit 1
 program="$top/crates/tm_prog/out/tm_prog"
-newest=$(find "$top/crates" "$top/crates.txt" -path '*/out' -prune -o -type f -newer "$program" -print 2>/dev/null | head -n 1)
-if [ ! -x "$program" ] || [ -n "$newest" ]; then
-  (cd "$top/crates/tm_prog" && rt verdict) >&2
+changed=$(find "$top/crates" "$top/crates.txt" -path '*/out' -prune -o \
+  \( -name '*.rt' -o -name '*.antt' -o -name crates.txt \) -newer "$program" -print 2>/dev/null | head -n 1)
+if [ ! -x "$program" ] || [ -n "$changed" ]; then
+  # it is run without words, and so ends as a usage fault
+  (cd "$top/crates/tm_prog" && rt run </dev/null) >&2
+  [ -x "$program" ] || exit 1
 fi
 exec "$program" "$@"

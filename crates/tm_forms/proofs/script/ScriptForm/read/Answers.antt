@@ -8,4 +8,4 @@ use Rattle.tm_forms.proofs.script.ScriptForm.read.Goals as goal
 pub invariant_of-result : goal.invariant_of-result
 invariant_of-result c =
     steps-built 0 (map (λ (t : Bor (List ℕ)). t.now) c.as_slice.result.now) c.in-Some-2.steps.items
-        (sym c.in_ok-steps.ensures ∙ ap (option_map (λ (v : Vec Scripted Global). v.items)) c.in-Some-2.is)
+    (sym c.in_ok-steps.ensures ∙ ap (option_map (λ (v : Vec Scripted Global). v.items)) c.in-Some-2.is)
