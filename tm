@@ -5,7 +5,8 @@ program="$top/crates/tm_prog/out/tm_prog"
 changed=$(find "$top/crates" "$top/crates.txt" -path '*/out' -prune -o \
   \( -name '*.rt' -o -name '*.antt' -o -name crates.txt \) -newer "$program" -print 2>/dev/null | head -n 1)
 if [ ! -x "$program" ] || [ -n "$changed" ]; then
-  # it is run without words, and so ends as a usage fault
+  # a program of before is no answer; the new one is run without words, and so ends as a usage fault
+  rm -f "$program"
   (cd "$top/crates/tm_prog" && rt run </dev/null) >&2
   [ -x "$program" ] || exit 1
 fi
