@@ -1,0 +1,6 @@
+pub mod Outcomes
+pub mod Places
+pub mod Widths
+pub mod Search
+pub mod Rows
+pub mod Find
