@@ -5,8 +5,8 @@
 use std::env;
 use std::io::ErrorKind;
 use std::process::ExitCode;
-use tm_app::outcome;
 use tm_app::status::Status;
+use tm_app::{outcome, report};
 use tm_defs::memory::OutOfMemory;
 use tm_outside::real::{RealFiles, StdSink};
 
@@ -35,7 +35,7 @@ fn main(rt: HostRuntime) -> ExitCode {
     let mut err = StdSink::err(rt);
     let status = match words_of(rt) {
         Ok(words) => outcome::run(alloc, &words, &mut files, &mut out, &mut err),
-        Err(OutOfMemory) => Status::OutOfMemory,
+        Err(OutOfMemory) => report::report(alloc, Status::OutOfMemory, &mut err),
     };
     ExitCode::from(status.code())
 }
