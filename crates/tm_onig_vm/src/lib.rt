@@ -1,0 +1,10 @@
+//! Searches for patterns.
+#![tactic(auto)]
+
+pub mod fault;
+mod goals;
+mod places;
+mod plain;
+mod widths;
+
+pub use plain::find_plainly;
