@@ -5,6 +5,8 @@ pub mod fault;
 mod goals;
 mod places;
 mod plain;
+#[cfg(test)]
+mod tests;
 mod widths;
 
 pub use plain::find_plainly;
