@@ -1,12 +1,11 @@
 -- What a body that was searched alone found ends within the line.
-use Rattle.std.proofs.Common.{◌≡◌, ℕ, zero, suc, ◌+◌, ◌-◌, ◌<◌, ◌≤◌, ◌==◌, ◌⊎◌, ⊎_elim, Bool, true, false, cond, Option, Some, None, List, length, min, refl, sym, ap, ◌∙◌, arith}
-use Rattle.std.specs.Prelude.{nat_le, ◌&&◌}
-use Rattle.tm_onig_class.specs.Tree.{Tree, tree_of}
+use Rattle.std.proofs.Common.{◌≡◌, ℕ, ◌≤◌, ◌==◌, ⊎_elim, Bool, true, false, cond, Some, length, arith}
+use Rattle.tm_onig_class.specs.Tree.{tree_of}
 use Rattle.tm_onig_class.specs.Widths.{least_width}
 use Rattle.tm_onig_search.specs.Widths.{greatest_width}
-use Rattle.tm_onig_search.specs.Outcomes.{Caps, Hit, Outcome, accept, fail}
+use Rattle.tm_onig_search.specs.Outcomes.{Caps, Hit, accept, fail}
 use Rattle.tm_onig_search.specs.Places.{Subject}
-use Rattle.tm_onig_search.specs.Search.{at_goal, nearest, width_or, look_back, search_tree}
+use Rattle.tm_onig_search.specs.Search.{at_goal, look_back, search_tree}
 use Rattle.tm_onig_search.proofs.Hits.{cond_hit, fail_hit}
 use Rattle.tm_onig_search.proofs.Ends.{EndsFrom, accept_ends, tree_ends}
 use Rattle.tm_onig_search.proofs.Within.{behind_hit}

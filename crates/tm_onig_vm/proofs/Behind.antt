@@ -1,13 +1,13 @@
 -- The starts of a look-behind, one branch for each, the nearest on top.
-use Rattle.std.proofs.Common.{◌≡◌, ℕ, zero, suc, ◌+◌, ◌-◌, ◌<◌, ◌≤◌, Bool, true, false, cond, Option, Some, None, List, [], length, min, if◌then◌else◌, refl, sym, ap, ◌∙◌, subst, arith}
+use Rattle.std.proofs.Common.{◌≡◌, ℕ, zero, suc, ◌+◌, ◌-◌, ◌<◌, ◌≤◌, Bool, true, false, Option, Some, None, List, [], min, if◌then◌else◌, refl, sym, ap, ◌∙◌, arith}
 use Rattle.std.specs.Prelude.{nat_le, ◌&&◌, option_map}
 use Rattle.std.proofs.lemmas.Bool.Decides.{nat_tests}
 use Rattle.tm_onig_search.specs.Outcomes.{Outcome, fail, or_else}
 use Rattle.tm_onig_search.specs.Places.{Subject}
 use Rattle.tm_onig_search.specs.Search.{nearest, width_or, look_back}
-use Rattle.tm_onig_search.proofs.Outcomes.{or_else-fail_left, or_else-fail_right}
+use Rattle.tm_onig_search.proofs.Outcomes.{or_else-fail_right}
 use Rattle.tm_onig_vm.specs.Near.{near}
-use Rattle.tm_onig_vm.specs.Goals.{any_from, any_of, AllWithin, Explores, StandsFor}
+use Rattle.tm_onig_vm.specs.Goals.{any_from, Explores, StandsFor}
 use Rattle.tm_onig_vm.specs.declared.goals.Branch.{Branch}
 
 -- n starts from the lowest on were taken up, the last to be tried first

@@ -1,5 +1,5 @@
 -- What entering each form of pattern leaves.
-use Rattle.std.proofs.Common.{◌≡◌, ℕ, zero, suc, ◌+◌, ◌-◌, ◌<◌, ◌≤◌, Bool, true, false, cond, not, ◌||◌, ◌==◌, Option, Some, None, List, [], ◌∷◌, ◌++◌, length, map, slice_get, true≢false, refl, sym, ap, ◌∙◌, subst, arith}
+use Rattle.std.proofs.Common.{◌≡◌, ℕ, ◌+◌, ◌<◌, ◌≤◌, Bool, true, false, cond, ◌==◌, Option, Some, None, List, [], ◌∷◌, ◌++◌, length, map, slice_get, true≢false, refl, sym, ap, ◌∙◌, subst, arith}
 use Rattle.std.proofs.lemmas.Option.{slice_get_within}
 use Rattle.std.specs.Borrow.{Bor}
 use Rattle.std.specs.declared.boxed.Box.{Box}
@@ -8,7 +8,7 @@ use Rattle.tm_onig_class.specs.declared.patterns.Position.{Position}
 use Rattle.tm_onig_class.specs.declared.patterns.Pattern.{Pattern}
 use Rattle.tm_onig_class.specs.declared.patterns.Pattern.TheVariants as P
 use Rattle.tm_onig_class.specs.Tree.{Tree, tree_of, trees}
-use Rattle.tm_onig_search.specs.Outcomes.{Caps, Outcome, Rest, tick, fail, or_else, accept}
+use Rattle.tm_onig_search.specs.Outcomes.{Caps, Outcome, Rest, tick, fail}
 use Rattle.tm_onig_search.specs.Places.{Subject, passes, matches, is_any, in_set, begins, holds}
 use Rattle.tm_onig_search.specs.Search.{close, one, loop, search_tree, search_row, search_any, last_set, read_group, at_goal}
 use Rattle.tm_onig_class.proofs.Trees.{tree_of-Empty, tree_of-Char, tree_of-Any, tree_of-Set, tree_of-Cat, tree_of-Alt, tree_of-Group, tree_of-Repeat, tree_of-Position, tree_of-Back, tree_of-Atomic, tree_of-Look}

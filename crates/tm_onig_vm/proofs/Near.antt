@@ -1,12 +1,11 @@
 -- Widths are counted up to 2^31.
-use Rattle.std.proofs.Common.{◌≡◌, ℕ, zero, suc, ◌+◌, ◌-◌, ◌*◌, ◌<◌, ◌≤◌, ◌⊎◌, inl, inr, min, max, Option, Some, None, List, [], ◌∷◌, length, get_or, map, drop, refl, sym, ap, ap₂, ◌∙◌, arith}
+use Rattle.std.proofs.Common.{◌≡◌, ℕ, zero, suc, ◌+◌, ◌-◌, ◌*◌, ◌<◌, ◌≤◌, min, max, Option, Some, None, List, [], ◌∷◌, length, get_or, map, drop, refl, sym, ap, ap₂, ◌∙◌, arith}
 use Rattle.std.specs.Prelude.{option_map}
-use native.Mathlib.Numerals.{unary_clauses}
 use Rattle.std.proofs.Math.Seq.{drop-cons}
 use Rattle.std.proofs.Math.ListN.{drop_of_length-le}
 use Rattle.std.proofs.lemmas.List.{length-drop}
 use Rattle.tm_onig_class.specs.declared.patterns.Pattern.{Pattern}
-use Rattle.tm_onig_class.specs.Tree.{Trees, NoTrees, More, tree_of, trees}
+use Rattle.tm_onig_class.specs.Tree.{Trees, More, tree_of, trees}
 use Rattle.tm_onig_class.specs.Widths.{least_width, widths_sum, widths_least}
 use Rattle.tm_onig_search.specs.Widths.{both_widths, greatest_width, greatest_sum, greatest_of}
 use Rattle.tm_onig_search.specs.Find.{last_group, last_group_of}

@@ -4,7 +4,7 @@ use Rattle.std.proofs.Math.Seq.{drop-cons}
 use Rattle.std.proofs.lemmas.Bool.{ne_eqb}
 use Rattle.std.specs.Borrow.{Bor}
 use Rattle.tm_onig_class.specs.declared.patterns.Pattern.{Pattern}
-use Rattle.tm_onig_class.specs.Tree.{Tree, Trees, NoTrees, More, tree_of, trees}
+use Rattle.tm_onig_class.specs.Tree.{Tree, NoTrees, More, tree_of, trees}
 use Rattle.tm_onig_search.specs.Outcomes.{Caps, Outcome, Rest, tick, fail, or_else, accept}
 use Rattle.tm_onig_search.specs.Places.{Subject}
 use Rattle.tm_onig_search.specs.Search.{at_goal, again, loop, choose, is_at, search_tree, search_row, search_any}

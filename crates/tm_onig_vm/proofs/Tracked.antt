@@ -1,8 +1,7 @@
 -- The search so far, and what is left of it.
-use Rattle.std.proofs.Common.{◌≡◌, ℕ, zero, suc, ◌+◌, ◌-◌, ◌<◌, ◌≤◌, Option, Some, None, List, [], ◌∷◌, ◌++◌, length, Bool, true, false, is_some, IfNone, IfSome, option_map, true≢false, refl, sym, ap, ◌∙◌, subst, arith}
+use Rattle.std.proofs.Common.{◌≡◌, ℕ, suc, ◌+◌, ◌<◌, ◌≤◌, Option, Some, None, List, [], ◌∷◌, ◌++◌, length, Bool, true, false, IfSome, option_map, sym, ap, ◌∙◌, subst, arith}
 use Rattle.tm_onig_search.specs.Outcomes.{Caps, Hit, Outcome, Rest, tick, fail, spend, or_else, or_else_at, accept, and_then, then_at}
 use Rattle.tm_onig_search.specs.Places.{Subject}
-use Rattle.tm_onig_search.specs.Search.{search_tree}
 use Rattle.tm_onig_search.proofs.Outcomes.{spend-tick, spend-spend, or_else-tick}
 use Rattle.tm_onig_vm.specs.Goals.{goals_rest, branch_outcome, any_from, any_of, AllWithin, Enters}
 use Rattle.tm_onig_vm.specs.declared.goals.Branch.{Branch}

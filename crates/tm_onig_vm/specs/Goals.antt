@@ -1,7 +1,7 @@
 -- What the goals and the branches of the plain search stand for.
-use Rattle.std.specs.Prelude.{◌≡◌, ℕ, ◌≤◌, Bool, List, [], ◌∷◌, length, Option, Some, None, ◌==◌, if◌then◌else◌}
-use Rattle.tm_onig_class.specs.Tree.{Tree, tree_of}
-use Rattle.tm_onig_search.specs.Outcomes.{Caps, Outcome, Rest, tick, fail, or_else, accept}
+use Rattle.std.specs.Prelude.{◌≡◌, ◌≤◌, List, [], ◌∷◌, length}
+use Rattle.tm_onig_class.specs.Tree.{tree_of}
+use Rattle.tm_onig_search.specs.Outcomes.{Outcome, Rest, tick, fail, or_else, accept}
 use Rattle.tm_onig_search.specs.Places.{Subject}
 use Rattle.tm_onig_search.specs.Search.{close, loop, again, at_goal, search_tree}
 use Rattle.tm_onig_vm.specs.declared.goals.Goal.{Goal}

@@ -1,4 +1,4 @@
-use Rattle.std.proofs.Common.{◌≡◌, ℕ, ◌≤◌, length, List, map, drop}
+use Rattle.std.proofs.Common.{◌≤◌, length, map, drop}
 use Rattle.tm_onig_search.specs.Places.{Subject}
 use Rattle.tm_onig_search.specs.Search.{search_any}
 use Rattle.tm_onig_class.specs.Tree.{tree_of, trees}

@@ -1,4 +1,3 @@
-use Rattle.std.proofs.Common.{sym}
 use Rattle.std.proofs.lemmas.Result.{on_ok_weaker}
 use Rattle.tm_onig_vm.specs.Goals.{goals_rest}
 use Rattle.tm_onig_vm.proofs.Entered.{read_done}

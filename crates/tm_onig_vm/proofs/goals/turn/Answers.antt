@@ -1,5 +1,5 @@
 use Rattle.std.proofs.lemmas.Result.{on_ok_weaker}
-use Rattle.std.proofs.Common.{sym, ◌∙◌}
+use Rattle.std.proofs.Common.{◌∙◌}
 use Rattle.tm_onig_class.specs.Tree.{tree_of}
 use Rattle.tm_onig_vm.specs.Goals.{goals_rest}
 use Rattle.tm_onig_vm.proofs.Pushed.{turn_below, turn_at, turn_greedy, turn_lazy}

@@ -1,5 +1,3 @@
-use Rattle.std.proofs.Common.{◌≡◌, ◌+◌, sym, ◌∙◌}
-use Rattle.tm_onig_search.specs.Places.{passes, matches, begins}
 use Rattle.tm_onig_vm.proofs.Texts.{differs, agrees}
 use Rattle.tm_onig_vm.proofs.places.stands_at.Goals as goal
 

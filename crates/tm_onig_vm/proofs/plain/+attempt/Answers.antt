@@ -1,15 +1,10 @@
-use Rattle.std.proofs.Common.{◌≡◌, ℕ, ◌-◌, ◌+◌, ◌<◌, ◌≤◌, Bool, true, false, is_some, refl, arith, sym, ◌∙◌, ap, subst}
+use Rattle.std.proofs.Common.{◌≡◌, ℕ, ◌-◌, ◌+◌, ◌<◌, arith, sym, ◌∙◌, ap, subst}
 use Rattle.std.proofs.lemmas.List.{nil_from_length}
-use Rattle.std.specs.Prelude.{option_map}
-use Rattle.tm_onig_search.specs.Outcomes.{Outcome, accept}
-use Rattle.tm_onig_search.specs.Places.{Subject}
-use Rattle.tm_onig_search.specs.Search.{search_tree}
-use Rattle.tm_onig_class.specs.Tree.{tree_of}
+use Rattle.tm_onig_search.specs.Outcomes.{Outcome}
 use Rattle.tm_onig_vm.specs.Anchors.{subject_of}
-use Rattle.tm_onig_vm.specs.Steps.{hit_of}
-use Rattle.tm_onig_vm.specs.Goals.{goals_rest, branch_outcome, any_of}
-use Rattle.tm_onig_vm.specs.Steps.{Steps, alone_outcome}
-use Rattle.tm_onig_vm.proofs.Tracked.{Tracks, track_none, track_cost, top_within, after_costs, after_goes, after_success, waited_cost, after_waited}
+use Rattle.tm_onig_vm.specs.Goals.{any_of}
+use Rattle.tm_onig_vm.specs.Steps.{alone_outcome}
+use Rattle.tm_onig_vm.proofs.Tracked.{Tracks, track_none, top_within, after_costs, after_goes, after_success, waited_cost, after_waited}
 use Rattle.tm_onig_vm.proofs.plain.+attempt.Goals as goal
 use Rattle.tm_onig_vm.proofs.plain.+attempt.Goals.{In_ok-next}
 

@@ -1,8 +1,4 @@
 use Rattle.std.proofs.Common.{◌-◌, ◌≤◌}
-use Rattle.tm_onig_search.specs.Outcomes.{accept}
-use Rattle.tm_onig_search.specs.Places.{Subject}
-use Rattle.tm_onig_search.specs.Search.{search_tree}
-use Rattle.tm_onig_class.specs.Tree.{tree_of}
 use Rattle.tm_onig_vm.specs.Anchors.{subject_of}
 use Rattle.tm_onig_vm.specs.Goals.{any_of}
 use Rattle.tm_onig_vm.proofs.Tracked.{Tracks}

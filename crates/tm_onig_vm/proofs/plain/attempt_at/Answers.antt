@@ -1,9 +1,7 @@
-use Rattle.std.proofs.Common.{◌≡◌, sym, ap, ◌∙◌}
 use Rattle.tm_onig_class.specs.Tree.{tree_of}
-use Rattle.tm_onig_search.specs.Outcomes.{Outcome}
 use Rattle.tm_onig_search.specs.Find.{at_start}
 use Rattle.tm_onig_vm.specs.Anchors.{subject_of}
-use Rattle.tm_onig_vm.specs.Goals.{any_of, StandsFor}
+use Rattle.tm_onig_vm.specs.Goals.{StandsFor}
 use Rattle.tm_onig_vm.proofs.plain.attempt_at.Goals as goal
 use Rattle.tm_onig_vm.proofs.plain.attempt_at.Goals.{In_ok-branches}
 

@@ -1,4 +1,4 @@
-use Rattle.std.proofs.Common.{◌-◌, ◌≤◌, ℕ, length}
+use Rattle.std.proofs.Common.{◌-◌, ◌≤◌, length}
 use Rattle.tm_onig_class.specs.Tree.{tree_of}
 use Rattle.tm_onig_search.specs.Outcomes.{accept}
 use Rattle.tm_onig_search.specs.Places.{Subject}

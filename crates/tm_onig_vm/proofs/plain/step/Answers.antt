@@ -1,7 +1,5 @@
-use Rattle.std.proofs.Common.{refl, sym, ap, ◌∙◌}
+use Rattle.std.proofs.Common.{refl, sym, ◌∙◌}
 use Rattle.std.proofs.lemmas.List.{nil_from_length}
-use Rattle.tm_onig_search.specs.Outcomes.{Rest}
-use Rattle.tm_onig_search.specs.Places.{Subject}
 use Rattle.tm_onig_vm.specs.Anchors.{subject_of}
 use Rattle.tm_onig_vm.specs.Goals.{goals_rest}
 use Rattle.tm_onig_vm.proofs.Pushed.{no_goal, one_goal, goals_rest-push}

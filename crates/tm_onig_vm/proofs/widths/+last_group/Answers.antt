@@ -1,7 +1,6 @@
-use Rattle.std.proofs.Common.{◌≡◌, refl, sym, ap, ◌∙◌, max, arith}
-use Rattle.tm_onig_class.specs.Tree.{tree_of}
+use Rattle.std.proofs.Common.{ap, ◌∙◌, max, arith}
 use Rattle.tm_onig_search.specs.Find.{last_group}
-use Rattle.tm_onig_class.proofs.Trees.{tree_of-Empty, tree_of-Char, tree_of-Any, tree_of-Set, tree_of-Cat, tree_of-Alt, tree_of-Group, tree_of-Atomic, tree_of-Repeat, tree_of-Look, tree_of-Back, tree_of-Position}
+use Rattle.tm_onig_class.proofs.Trees.{tree_of-Cat, tree_of-Alt, tree_of-Group, tree_of-Atomic, tree_of-Repeat, tree_of-Look}
 use Rattle.tm_onig_vm.proofs.Near.{groups_none, last_more}
 use Rattle.tm_onig_vm.proofs.widths.+last_group.Goals as goal
 

@@ -1,8 +1,7 @@
-use Rattle.std.proofs.Common.{◌≡◌, ◌-◌, length, refl, sym, ap, ◌∙◌, arith}
+use Rattle.std.proofs.Common.{◌-◌, length, ◌∙◌, arith}
 use Rattle.tm_onig_class.specs.Tree.{tree_of}
 use Rattle.tm_onig_class.specs.Widths.{least_width}
-use Rattle.tm_onig_class.proofs.Trees.{tree_of-Empty, tree_of-Char, tree_of-Any, tree_of-Set, tree_of-Cat, tree_of-Alt, tree_of-Group, tree_of-Atomic, tree_of-Repeat, tree_of-Look, tree_of-Back, tree_of-Position}
-use Rattle.tm_onig_vm.specs.Near.{near}
+use Rattle.tm_onig_class.proofs.Trees.{tree_of-Cat, tree_of-Alt, tree_of-Group, tree_of-Atomic, tree_of-Repeat}
 use Rattle.tm_onig_vm.proofs.Near.{near_product, sum_none, sum_more, least_none, least_last, least_more}
 use Rattle.tm_onig_vm.proofs.widths.+least.Goals as goal
 
