@@ -2,6 +2,7 @@ ghost use Rattle.std.specs.Prelude.{◌<◌, ◌^◌, length, IfOk};
 
 use crate::fault::FindFault;
 use crate::plain::find_plainly;
+use crate::program::{compile, find};
 use sqlite_items::Items;
 use std::alloc::{AllocError, Global};
 use std::test::Fail;
@@ -306,18 +307,36 @@ const ROWS: [(&str, &str, u32, &str, &str); 118] = [
     ("'a{1-g{1-g'bC2", "aaaa", 0, "ag", "none; 228"),
 ];
 
+/// What both searches give, which must be the same.
+fn both(
+    alloc: Global,
+    notation: &str,
+    text: &Line,
+    from: u32,
+    flags: &str,
+) -> Result<(String, String), Fail>
+    requires { length text.now < 2 ^ 31 }
+{
+    let pattern = tree(alloc, notation)?;
+    let allow_a = flags.contains('a');
+    let allow_g = flags.contains('g');
+    let mut budget = 1_000_000;
+    let found = find_plainly(alloc, &pattern, text, from, allow_a, allow_g, &mut budget)?;
+    let plain = shown(alloc, &found, 1_000_000 - budget)?;
+    let prog = compile(alloc, &pattern)?;
+    let mut budget = 1_000_000;
+    let found = find(alloc, &prog, text, from, allow_a, allow_g, &mut budget)?;
+    Ok((plain, shown(alloc, &found, 1_000_000 - budget)?))
+}
+
 #[test]
-fn finds_plainly(rt: HostRuntime) -> Result<(), Fail> {
+fn finds(rt: HostRuntime) -> Result<(), Fail> {
     let alloc = rt.alloc();
     for (notation, text, from, flags, wanted) in ROWS.iter() {
-        let pattern = tree(alloc, notation)?;
         let text = line(alloc, text)?;
-        let mut budget = 1_000_000;
-        let allow_a = flags.contains('a');
-        let allow_g = flags.contains('g');
-        let found = find_plainly(alloc, &pattern, &text, *from, allow_a, allow_g, &mut budget)?;
-        let given = shown(alloc, &found, 1_000_000 - budget)?;
-        assert_eq!(rt; given.as_str(), *wanted);
+        let (plain, compiled) = both(alloc, notation, &text, *from, flags)?;
+        assert_eq!(rt; plain.as_str(), *wanted);
+        assert_eq!(rt; compiled.as_str(), *wanted);
     }
     Ok(())
 }
@@ -327,14 +346,15 @@ fn finds_plainly(rt: HostRuntime) -> Result<(), Fail> {
 fn budget_is_exact(rt: HostRuntime) -> Result<(), Fail> {
     let alloc = rt.alloc();
     let pattern = tree(alloc, "'a{0-g{0-g'bC2")?;
+    let prog = compile(alloc, &pattern)?;
     let text = line(alloc, "aaac")?;
     let mut budget = 144;
-    match find_plainly(alloc, &pattern, &text, 0, true, true, &mut budget) {
+    match find(alloc, &prog, &text, 0, true, true, &mut budget) {
         Err(fault) => assert_eq!(rt; fault, FindFault::Budget),
         Ok(_) => return Err(Fail::from("the budget was enough")),
     }
     let mut budget = 145;
-    let found = find_plainly(alloc, &pattern, &text, 0, true, true, &mut budget)?;
+    let found = find(alloc, &prog, &text, 0, true, true, &mut budget)?;
     assert!(rt; found.is_none());
     assert_eq!(rt; budget, 0);
     Ok(())
