@@ -29,6 +29,23 @@ within_set n (c ∷ cs) zero start end low high all (suc i) a b e = all (suc i) 
 within_set n (c ∷ cs) (suc number) start end low high all zero a b e = all zero a b e
 within_set n (c ∷ cs) (suc number) start end low high all (suc i) a b e = within_set n cs number start end low high (λ j x y got. all (suc j) x y got) i a b e
 
+nearest_hit : (attempt : ℕ → Outcome) (n q : ℕ) (h : Hit) → (nearest attempt n q).hit ≡ Some h → (p : ℕ) × (p ≤ q) × ((attempt p).hit ≡ Some h)
+unfolding nearest
+nearest_hit attempt zero q h e = (q, omega arith, e)
+nearest_hit attempt (suc n) q h e =
+    ⊎_elim (λ here. (q, omega arith, here))
+    (λ later. let found = nearest_hit attempt n (q - 1) h later in let low = found.1 in (found.0, omega arith, found.2))
+    (or_else_hit (attempt q) (nearest attempt n (q - 1)) h e)
+
+pub behind_hit : (attempt : ℕ → Outcome) (least : ℕ) (greatest : Option ℕ) (pos : ℕ) (h : Hit) → (look_back attempt least greatest pos).hit ≡ Some h →
+    (p : ℕ) × (p ≤ pos) × ((attempt p).hit ≡ Some h)
+behind_hit attempt least greatest pos h e =
+    let more = min pos (width_or greatest pos) - least in
+    let tried = nearest attempt more (pos - least) in
+    let from_start : tried.hit ≡ Some h → (p : ℕ) × (p ≤ pos) × ((attempt p).hit ≡ Some h) =
+    λ got. let found = nearest_hit attempt more (pos - least) h got in let low = found.1 in (found.0, omega arith, found.2) in
+    ⊎_elim from_start (λ none. absurd (fail_hit h none)) (cond_hit (nat_le least pos && nat_le least (width_or greatest pos)) tried fail h e)
+
 module _ (s : Subject) where
   -- the groups of a success of k are within the text
   abbrev pub SoundFrom : Rest → ℕ → Type 0
@@ -84,21 +101,9 @@ module _ (s : Subject) where
       let parts = then_hit o (λ at cs. k pos cs) h e in sound pos parts.0.caps h (omega arith) within (inner parts.0 parts.1) parts.2
   look_within true o inner k pos caps within all sound h e = sound pos caps h (omega arith) within all (if_none_hit o.hit (k pos caps) h e)
 
-  nearest_hit : (attempt : ℕ → Outcome) (n q : ℕ) (h : Hit) → (nearest attempt n q).hit ≡ Some h → (p : ℕ) × (p ≤ q) × ((attempt p).hit ≡ Some h)
-  unfolding nearest
-  nearest_hit attempt zero q h e = (q, omega arith, e)
-  nearest_hit attempt (suc n) q h e =
-      ⊎_elim (λ here. (q, omega arith, here))
-      (λ later. let found = nearest_hit attempt n (q - 1) h later in let low = found.1 in (found.0, omega arith, found.2))
-      (or_else_hit (attempt q) (nearest attempt n (q - 1)) h e)
-
   behind_within : (attempt : ℕ → Outcome) (least : ℕ) (greatest : Option ℕ) (pos : ℕ) → ((q : ℕ) (x : Hit) → q ≤ pos → (attempt q).hit ≡ Some x → AreWithin (length s.line) x.caps) →
       (x : Hit) → (look_back attempt least greatest pos).hit ≡ Some x → AreWithin (length s.line) x.caps
-  behind_within attempt least greatest pos inner x e =
-      let more = min pos (width_or greatest pos) - least in
-      let tried = nearest attempt more (pos - least) in
-      let from_start : tried.hit ≡ Some x → AreWithin (length s.line) x.caps = λ got. let found = nearest_hit attempt more (pos - least) x got in let low = found.1 in inner found.0 x (omega arith) found.2 in
-      ⊎_elim from_start (λ none. absurd (fail_hit x none)) (cond_hit (nat_le least pos && nat_le least (width_or greatest pos)) tried fail x e)
+  behind_within attempt least greatest pos inner x e = let found = behind_hit attempt least greatest pos x e in inner found.0 x found.1 found.2
 
   mutual
     unfolding search_tree

@@ -42,6 +42,12 @@ begins fold [] ds = true
 begins fold (c ∷ cs) [] = false
 begins fold (c ∷ cs) (d ∷ ds) = matches fold c d && begins fold cs ds
 
+abbrev pub is_break : Option ℕ → Bool
+is_break o = passes (λ c. c == 0x0A) o
+
+abbrev pub is_word : Option ℕ → Bool
+is_word o = passes (in_listed L.Word) o
+
 module _ (line : List ℕ) where
   -- the character directly before a position
   abbrev pub before : ℕ → Option ℕ
@@ -51,23 +57,17 @@ module _ (line : List ℕ) where
   abbrev pub after : ℕ → Option ℕ
   after pos = slice_get line pos
 
-  abbrev pub is_break : Option ℕ → Bool
-  is_break o = passes (λ c. c == 0x0A) o
-
-  abbrev pub is_word : Option ℕ → Bool
-  is_word o = passes (in_listed L.Word) o
-
   -- exactly one neighbour is a word's character
   abbrev pub at_word : ℕ → Bool
   at_word pos = if is_word (before pos) then not (is_word (after pos)) else is_word (after pos)
 
 -- The place is at the position (after Oniguruma's anchors).
 abbrev pub holds : Subject → Position → ℕ → Bool
-holds s LineStart pos = (pos == 0) || (is_break s.line (before s.line pos) && nat_lt pos (length s.line))
-holds s LineEnd pos = (pos == length s.line) || is_break s.line (after s.line pos)
+holds s LineStart pos = (pos == 0) || (is_break (before s.line pos) && nat_lt pos (length s.line))
+holds s LineEnd pos = (pos == length s.line) || is_break (after s.line pos)
 holds s TextStart pos = s.allow_a && (pos == 0)
 holds s SearchStart pos = s.allow_g && (pos == s.first)
-holds s BeforeFinal pos = (pos == length s.line) || ((pos + 1 == length s.line) && is_break s.line (after s.line pos))
-holds s TextEnd pos = (pos == length s.line) && not (is_break s.line (before s.line pos))
+holds s BeforeFinal pos = (pos == length s.line) || ((pos + 1 == length s.line) && is_break (after s.line pos))
+holds s TextEnd pos = (pos == length s.line) && not (is_break (before s.line pos))
 holds s Word pos = at_word s.line pos
 holds s NotWord pos = not (at_word s.line pos)

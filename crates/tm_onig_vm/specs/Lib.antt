@@ -1,0 +1,4 @@
+pub mod Anchors
+pub mod Near
+pub mod Goals
+pub mod Steps
