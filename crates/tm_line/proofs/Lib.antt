@@ -1,0 +1,11 @@
+pub mod Budgets
+pub mod Causes
+pub mod Earliest
+pub mod Forward
+pub mod Lines
+pub mod Paths
+pub mod Reaches
+pub mod Starts
+pub mod Tokens
+pub mod Turns
+pub mod Winners

@@ -1,0 +1,16 @@
+-- Rules whose patterns take at least one character, so that every match moves forward.
+use Rattle.std.specs.Prelude.{ℕ, Bool, true, ◌&&◌, nat_lt}
+use Rattle.tm_onig_class.specs.declared.patterns.Pattern.{Pattern}
+use Rattle.tm_onig_class.specs.Tree.{tree_of}
+use Rattle.tm_onig_class.specs.Widths.{least_width}
+use Rattle.tm_line.specs.declared.rules.Rule.{Rule}
+use Rattle.tm_line.specs.declared.rules.Rule.TheVariants.{Match, BeginEnd, Only}
+
+-- the least width of the pattern is at least 1
+abbrev pub is_wide : Pattern → Bool
+is_wide pattern = nat_lt 0 (least_width (tree_of pattern))
+
+abbrev pub advances : Rule → Bool
+advances (Match pattern name) = is_wide pattern
+advances (BeginEnd begin end name patterns) = is_wide begin && is_wide end
+advances (Only patterns) = true

@@ -1,0 +1,9 @@
+pub mod Advancing
+pub mod Grammar
+pub mod Ran
+pub mod Search
+pub mod Searched
+pub mod SearchLaws
+pub mod Setting
+pub mod Tokenizing
+pub mod Turned

@@ -1,0 +1,11 @@
+-- A setting as plain data.
+use Rattle.std.specs.Prelude.{ℕ, List}
+use Rattle.tm_line.specs.declared.rules.Rule.{Rule}
+
+-- the scope of the grammar, and its rules by number; rule 0 is the root
+pub record Setting : Type 0 where
+  pub scope : List ℕ
+  pub rules : List Rule
+
+abbrev pub setting_of : List ℕ → List Rule → Setting
+setting_of scope rules = record { scope = scope; rules = rules }

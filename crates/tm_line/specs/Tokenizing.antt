@@ -1,0 +1,53 @@
+-- What the tokenizing of a line by rules gives.
+use Rattle.std.specs.Prelude.{ℕ, List, [], ◌∷◌, ◌++◌, length, reverse, false}
+use Rattle.tm_defs.specs.declared.frames.FrameData.{FrameData}
+use Rattle.tm_defs.specs.Tables.{TableEntries, none_made, more_made, only_state}
+use Rattle.tm_defs.specs.Tokenizer.{Tokenized}
+use Rattle.tm_line_run.specs.LineRun.{Place, Outcome, names_made, opened, line_run}
+use Rattle.tm_line_run.specs.Painted.{scopes_at, runs_of}
+use Rattle.tm_line.specs.Grammar.{rules_grammar}
+use Rattle.tm_literal.specs.Metadata.{metadata_of}
+use Rattle.tm_line.specs.Setting.{Setting}
+
+-- the place of open rules, the innermost first (no line has none)
+abbrev pub place_of : List FrameData → ℕ → Place
+place_of [] at = record { top = opened 0 [] false; below = []; at = at }
+place_of (f ∷ fs) at = record { top = f; below = fs; at = at }
+
+-- the opening state stands for the one frame of the root, rule 0, with the grammar's scope pushed
+abbrev pub start_state : List ℕ → List FrameData → List FrameData
+start_state scope [] = opened 0 (scope ∷ []) false ∷ []
+start_state scope (f ∷ fs) = f ∷ fs
+
+abbrev pub start_made : List ℕ → List FrameData → TableEntries
+start_made scope [] = more_made (names_made [] (scope ∷ [])) (only_state (start_state scope []))
+start_made scope (f ∷ fs) = none_made
+
+-- the line with its line break, from its start on
+abbrev pub outcome_of : Setting → List FrameData → List ℕ → Outcome
+outcome_of s start line =
+    let text = line ++ 10 ∷ [] in
+    line_run (rules_grammar s.rules text) (place_of (reverse (start_state s.scope start)) 0)
+
+-- the content scopes of the innermost of open rules
+abbrev pub top_contents : List FrameData → List (List ℕ)
+top_contents [] = []
+top_contents (f ∷ fs) = f.contents
+
+-- the maximal runs of equal metadata over the line's own characters, and the open rules behind it
+abbrev pub tokenized_by : Outcome → ℕ → Tokenized
+tokenized_by o len = record {
+  tokens =
+      runs_of (λ offset. metadata_of (scopes_at o.part.pieces offset)) (metadata_of (top_contents o.stack)) len;
+  end = reverse o.stack;
+}
+
+abbrev pub rules_tokenized : Setting → List FrameData → List ℕ → Tokenized
+rules_tokenized s start line = tokenized_by (outcome_of s start line) (length line)
+
+abbrev pub rules_made : Setting → List FrameData → List ℕ → TableEntries
+rules_made s start line = more_made (start_made s.scope start) (outcome_of s start line).part.made
+
+-- the steps of all searches of the line
+abbrev pub rules_cost : Setting → List FrameData → List ℕ → ℕ
+rules_cost s start line = (outcome_of s start line).part.cost

@@ -1,0 +1,198 @@
+//! The tokenizer of rules of patterns.
+ghost use Rattle.std.specs.Prelude.{◌≡◌, ◌≤◌, ◌<◌, ◌^◌, ◌-◌, ◌++◌, ◌∷◌, [], length, IfOk, IfErr, slice_get, Some, IsTrue, reverse};
+ghost use Rattle.std.specs.List.{list_all};
+ghost use Rattle.tm_defs.specs.Tables.{GrowsWithin, IsFullForSome, state_at};
+ghost use Rattle.tm_defs.specs.declared.tokenizer.LineFault.TheVariants as fault;
+ghost use Rattle.tm_line_run.specs.Painted.{furthest, meta_at, runs_of};
+ghost use Rattle.tm_line.specs.Advancing.{advances};
+ghost use Rattle.tm_literal.specs.Metadata.{metadata_of};
+ghost use Rattle.tm_line.specs.Ran.{Tokenizes};
+ghost use Rattle.tm_line.specs.Setting.{setting_of};
+ghost use Rattle.tm_line.specs.Tokenizing.{start_state, start_made, top_contents};
+
+use tm_literal::metadata::{base_metadata, metadata};
+use crate::rules::Rule;
+use crate::run::run;
+use crate::tables::{longer_list, push_frame};
+use crate::turn::table_fault;
+use std::alloc::{AllocError, Global};
+use std::marker::Model;
+use std::sync::ledger::Ledger;
+use tm_defs::frames::{ScopeList, StateId};
+use tm_defs::steps::Steps;
+use tm_defs::tables::{States, TableFault};
+use tm_defs::texts::{Line, Name};
+use tm_defs::tokenizer::{LineFault, LineOut, LineTok};
+use tm_line_run::painter::{Painted, tokens_of};
+
+/// A setting. Rule 0 is the root, and each match of a pattern takes a character.
+#[derive(Drop)]
+pub struct Setting {
+    scope: Name,
+    rules: Vec<Rule>,
+    alloc: Global,
+}
+
+impl Model for Setting {
+    ghost use Rattle.std.specs.Coded.{codes};
+    ghost use Rattle.std.specs.Prelude.{IsTrue};
+    ghost use Rattle.std.specs.List.{list_all};
+    ghost use Rattle.tm_onig_class.specs.contracts.patterns.Pattern as pattern;
+    ghost use Rattle.tm_line.specs.Setting.{Setting};
+    ghost use Rattle.tm_line.specs.Advancing.{advances};
+
+    ghost Value = { Setting };
+
+    ghost coded = { Prim.hlevel (codes, pattern.the_row.coded) };
+
+    ghost view = { λ a. record { scope = a.scope; rules = a.rules.items } };
+
+    ghost invariant = { λ a. IsTrue (list_all advances a.rules.items) };
+}
+
+impl Setting {
+    /// A setting of these rules. `scope` is the grammar's scope, which every token has; each line takes
+    /// its buffers from `alloc`.
+    pub fn build(alloc: Global, scope: Name, rules: Vec<Rule>) -> Self
+        requires wide { IsTrue (list_all advances rules.items) }
+        ensures { result ≡ setting_of scope rules.items }
+    {
+        Setting {
+            scope,
+            rules,
+            alloc,
+        }
+    }
+}
+
+/// The line with its line break.
+fn with_break(alloc: Global, line: &Line) -> Result<Vec<char>, AllocError>
+    ensures { IfOk result (λ text. text.items ≡ line.now ++ 10 ∷ []) }
+{
+    let mut text = Vec::new(alloc);
+    text.extend_from_slice(line.as_slice())?;
+    text.push('\n')?;
+    Ok(text)
+}
+
+/// The state with which a line begins: at the opening state that of the root.
+fn start_of<S: States>(table: &mut S, scope: &Name, start: StateId) -> Result<StateId, TableFault>
+    requires { start.0 < length (S.tables table.old).states }
+    ensures ok { let state = state_at (S.tables table.old) start in
+        IfOk result (λ id. slice_get (S.tables table.new).states id.0 ≡
+        Some (start_state scope.now state)) }
+    ensures grows { let state = state_at (S.tables table.old) start in
+        GrowsWithin (start_made scope.now state) (S.tables table.old) (S.tables table.new) }
+    ensures full { let state = state_at (S.tables table.old) start in
+        IfErr result (IsFullForSome (start_made scope.now state) (S.tables table.new)) }
+{
+    table.known();
+    if start.0 != 0 {
+        return Ok(start);
+    }
+    match longer_list(table, ScopeList(0), scope) {
+        Ok(path) => push_frame(table, start, path, 0, false),
+        Err(fault) => Err(fault),
+    }
+}
+
+/// The metadata of a state's innermost content scopes.
+fn top_meta<S: States>(table: &S, state: StateId) -> u32
+    requires { state.0 < length (S.tables table.now).states }
+    ensures { result ≡ metadata_of (top_contents (reverse (state_at (S.tables table.now) state))) }
+{
+    match table.top(state) {
+        Some((frame, _)) => metadata(table, frame.contents),
+        None => base_metadata(),
+    }
+}
+
+/// The tokens of what was painted, and the state.
+fn finished<S: States>(
+    alloc: Global,
+    table: &S,
+    pieces: &[Painted],
+    len: usize,
+    end: StateId,
+) -> Result<LineOut, LineFault>
+    requires end { end.0 < length (S.tables table.now).states }
+    requires reach { len ≤ furthest pieces.now }
+    requires short { len < 2 ^ 31 }
+    ensures tokens { let contents = top_contents (reverse (state_at (S.tables table.now) end)) in
+        IfOk result (λ out. out.tokens ≡ runs_of (meta_at pieces.now) (metadata_of contents) len) }
+    ensures end { IfOk result (λ out. out.end ≡ end) }
+    ensures full { IfErr result (λ cause. cause ≡ fault.OutOfMemory) }
+{
+    let end_meta = top_meta(table, end);
+    let Ok(tokens) = tokens_of(alloc, pieces, len, end_meta) else {
+        return Err(LineFault::OutOfMemory);
+    };
+    Ok(LineOut { tokens, end })
+}
+
+/// A line from a state.
+fn tokenized_line<S: States>(
+    alloc: Global,
+    table: &mut S,
+    scope: &Name,
+    rules: &[Rule],
+    start: StateId,
+    line: &Line,
+    budget: u64,
+) -> Result<LineOut, LineFault>
+    requires start { start.0 < length (S.tables table.old).states }
+    requires short { length line.now < 2 ^ 31 - 1 }
+    requires wide { IsTrue (list_all advances rules.now) }
+    ensures { Tokenizes (setting_of scope.now rules.now) (state_at (S.tables table.old) start) line.now
+        (S.tables table.old) (S.tables table.new) budget result }
+{
+    let Ok(chars) = with_break(alloc, line) else {
+        return Err(LineFault::OutOfMemory);
+    };
+    let text = Line::new(chars);
+    let state = match start_of(table, scope, start) {
+        Ok(state) => state,
+        Err(fault) => return Err(table_fault(fault)),
+    };
+    let mut pieces = Vec::new(alloc);
+    let mut left = budget;
+    match run(alloc, table, &mut pieces, rules, &text, state, &mut left) {
+        Ok(end) => finished(alloc, table, pieces.as_slice(), line.as_slice().len(), end),
+        Err(fault) => Err(fault),
+    }
+}
+
+impl LineTok for Setting {
+    ghost use Rattle.tm_line.specs.Setting.{Setting};
+    ghost use Rattle.tm_line.specs.Tokenizing.{rules_tokenized, rules_cost, rules_made};
+
+    ghost Plain = { Setting };
+
+    ghost plain = { λ s. s };
+
+    ghost tokenized = { rules_tokenized };
+
+    ghost plain_cost = { rules_cost };
+
+    ghost entries_made = { rules_made };
+
+    fn line<S: States, L: Ledger>(
+        &self,
+        table: &mut S,
+        start: StateId,
+        line: &Line,
+        budget: u64,
+        steps: &mut Steps<L>,
+    ) -> Result<LineOut, LineFault> {
+        steps.tick();
+        tokenized_line(
+            self.alloc,
+            table,
+            &self.scope,
+            self.rules.as_slice(),
+            start,
+            line,
+            budget,
+        )
+    }
+}
