@@ -7,12 +7,6 @@ pub record IsPartSpent (before now rest whole : ℕ) : Type 0 where
   pub falls : now ≤ before
   pub most : before + rest ≤ now + whole
 
-pub none-spent : (budget whole : ℕ) → IsPartSpent budget budget whole whole
-none-spent budget whole = record { falls = omega arith; most = omega arith }
-
-pub all-spent : (before now whole : ℕ) → IsPartSpent before now 0 whole → Spends whole before now
-all-spent before now whole h = let a = h.falls in let b = h.most in record { falls = a; most = omega arith }
-
 -- one more part of the cost is paid
 pub more-spent : (before now next cost rest whole : ℕ) → IsPartSpent before now (cost + rest) whole → Spends cost now next → IsPartSpent before next rest whole
 more-spent before now next cost rest whole h s = let a = h.falls in let b = h.most in let c = s.falls in let d = s.most in record { falls = omega arith; most = omega arith }

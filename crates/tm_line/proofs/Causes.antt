@@ -1,5 +1,5 @@
 -- Why a part of a line was refused is why the line was.
-use Rattle.std.proofs.Common.{◌≡◌, ℕ, ◌<◌, refl, sym, subst}
+use Rattle.std.proofs.Common.{◌≡◌, ℕ, ◌<◌, sym, subst}
 use Rattle.tm_defs.specs.declared.tables.TableFault.{TableFault}
 use Rattle.tm_defs.specs.declared.tables.TableFault.TheVariants as table
 use Rattle.tm_defs.specs.declared.tokenizer.LineFault.{LineFault}
@@ -7,9 +7,7 @@ use Rattle.tm_defs.specs.declared.tokenizer.LineFault.TheVariants as line
 use Rattle.tm_defs.specs.Tables.{Tables, TableEntries, IsFullForSome}
 use Rattle.tm_defs.specs.Tokenizer.{IsLineCause}
 use Rattle.tm_defs.proofs.Growth.{AreAmong, full-more}
-use Rattle.tm_onig_vm.specs.declared.fault.FindFault.{FindFault}
-use Rattle.tm_onig_vm.specs.declared.fault.FindFault.TheVariants as find
-use Rattle.tm_line.specs.Turned.{of_table, of_search}
+use Rattle.tm_line.specs.Turned.{of_table}
 
 pub cause-more : (before now cost whole : ℕ) (few more : TableEntries) (t : Tables) (fault : LineFault) → (now < cost → before < whole) → AreAmong few more →
     IsLineCause now cost few t fault → IsLineCause before whole more t fault
@@ -23,10 +21,3 @@ table_cause budget cost made t table.OutOfMemory h = tt
 
 pub of_table-cause : (budget cost : ℕ) (made : TableEntries) (t : Tables) (fault : TableFault) (said : LineFault) → said ≡ of_table fault → IsFullForSome made t fault → IsLineCause budget cost made t said
 of_table-cause budget cost made t fault said e h = let P : LineFault → Type 0 = λ x. IsLineCause budget cost made t x in subst P (sym e) (table_cause budget cost made t fault h)
-
-search_cause : (budget cost : ℕ) (made : TableEntries) (t : Tables) (fault : FindFault) → (fault ≡ find.Budget → budget < cost) → IsLineCause budget cost made t (of_search fault)
-search_cause budget cost made t find.Budget h = h refl
-search_cause budget cost made t find.OutOfMemory h = tt
-
-pub of_search-cause : (budget cost : ℕ) (made : TableEntries) (t : Tables) (fault : FindFault) (said : LineFault) → said ≡ of_search fault → (fault ≡ find.Budget → budget < cost) → IsLineCause budget cost made t said
-of_search-cause budget cost made t fault said e h = let P : LineFault → Type 0 = λ x. IsLineCause budget cost made t x in subst P (sym e) (search_cause budget cost made t fault h)

@@ -18,7 +18,7 @@ use Rattle.tm_literal.specs.Metadata.{metadata_of}
 use Rattle.tm_line.specs.Ran.{Ran}
 use Rattle.tm_line.specs.Tokenizing.{place_of}
 use Rattle.tm_line.specs.Turned.{Takes, part_of, made_in}
-use Rattle.tm_line.proofs.Budgets.{IsPartSpent, none-spent, more-spent, part-spent, part-over}
+use Rattle.tm_line.proofs.Budgets.{IsPartSpent, more-spent, part-spent, part-over}
 use Rattle.tm_line.proofs.Causes.{cause-more}
 
 painted-append : (a b : List Piece) → painted metadata_of (a ++ b) ≡ painted metadata_of a ++ painted metadata_of b
@@ -38,10 +38,6 @@ pub record IsLeft (t u : Tables) (old now : List Painted) (before left : ℕ) (a
   pub among : AreAmong rest.part.made all.part.made
   pub grows : GrowsWithin all.part.made t u
   pub spent : IsPartSpent before left rest.part.cost all.part.cost
-
--- the start
-pub first-left : (t : Tables) (old : List Painted) (budget : ℕ) (all : Outcome) → IsLeft t t old old budget budget all all
-first-left t old budget all = record { pieces = refl; stack = refl; among = among-refl all.part.made; grows = tables-refl all.part.made t; spent = none-spent budget all.part.cost }
 
 -- a state that a place's stack stands for gives that place
 state-is : (v : Tables) (id : StateId) (stack : List FrameData) → slice_get v.states id.0 ≡ Some (reverse stack) → reverse (state_at v id) ≡ stack

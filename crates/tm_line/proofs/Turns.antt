@@ -9,7 +9,6 @@ use Rattle.tm_defs.specs.declared.frames.StateId.{StateId}
 use Rattle.tm_defs.specs.Tables.{Tables, IsNumbering, GrowsWithin, IsFullForSome, none_made, more_made, path_at, state_at, frame_at, deeper_state, only_state}
 use Rattle.tm_defs.specs.declared.tables.TableFault.{TableFault}
 use Rattle.tm_defs.specs.declared.tokenizer.LineFault.{LineFault}
-use Rattle.tm_onig_vm.specs.declared.fault.FindFault.{FindFault}
 use Rattle.tm_defs.proofs.Growth.{slice_get-grown, tables-refl}
 use Rattle.tm_line_run.specs.LineRun.{Place, Grammar, Turn, Stops, GoesOn, stack_of, paints, names_made, opened, some_open, rests, ended, begun, matched, by_winner, paid, turn}
 use Rattle.tm_line_run.specs.Painted.{painted}
@@ -25,9 +24,9 @@ use Rattle.tm_literal.specs.Metadata.{metadata_of}
 use Rattle.tm_line.specs.Search.{Candidate, earliest_winner, searches_cost, flattened_candidates}
 use Rattle.tm_line.specs.Searched.{Searches}
 use Rattle.tm_line.specs.Tokenizing.{place_of}
-use Rattle.tm_line.specs.Turned.{Does, Takes, IsHere, place_here, part_of, made_in, turn_of, candidate_turn, taken_turn, of_table, of_search}
+use Rattle.tm_line.specs.Turned.{Does, Takes, IsHere, place_here, part_of, made_in, turn_of, candidate_turn, taken_turn, of_table}
 use Rattle.tm_line.proofs.Budgets.{spends-more}
-use Rattle.tm_line.proofs.Causes.{of_table-cause, of_search-cause}
+use Rattle.tm_line.proofs.Causes.{of_table-cause}
 
 pub some-push : (xs : List FrameData) (x : FrameData) → some_open (xs ++ x ∷ []) ≡ true
 some-push [] x = refl
@@ -206,22 +205,3 @@ module _ (rules : List Rule) (text : List ℕ) where
     takes-err w fault said e s done =
         let does = does-turn t u old new (Err fault) h has_end w split has s.found done in
         record { ok = tt; grows = does.grows; spends = spends-more _ _ before after (searches-least t h has_end split has) s.spends; cause = of_table-cause before _ _ u fault said e does.full }
-
-    pub takes-none : (fault : FindFault) (said : LineFault) → said ≡ of_search fault → Searches (earliest_winner text h.at cs) (searches_cost text h.at cs) before after (Err fault) →
-        Takes the_turn t t old new before after (Err said)
-    takes-none fault said e s =
-        let least = searches-least t h has_end split has in
-        record {
-          ok = tt;
-          grows = tables-refl (made_in the_turn) t;
-          spends = spends-more _ _ before after least s.spends;
-          cause = of_search-cause before (part_of the_turn).cost (made_in the_turn) t fault said e (λ budget. let lt = s.over (ap Err budget) in omega arith);
-        }
-
-  -- what was found is done
-  pub does-found : (t u : Tables) (old new : List Painted) (result : Result Next TableFault) (p : Place) (w : Option Found) (f : Found) (n : Option ℕ) → w ≡ Some f → f.candidate ≡ n →
-      Does (candidate_turn rules (length text) p f n) t u old new result → Does (taken_turn rules (length text) p w) t u old new result
-  does-found t u old new result p w f n some is done =
-      let P : Option ℕ → Type 0 = λ n. Does (candidate_turn rules (length text) p f n) t u old new result in
-      let Q : Option Found → Type 0 = λ w. Does (taken_turn rules (length text) p w) t u old new result in
-      subst Q (sym some) (subst P (sym is) done)

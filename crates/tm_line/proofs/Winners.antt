@@ -1,13 +1,12 @@
 -- The earliest of candidates, part by part.
 use Rattle.std.proofs.Common.{◌≡◌, ℕ, ◌+◌, ◌<◌, ◌++◌, Bool, true, false, cond, nat_lt, List, [], ◌∷◌, length, drop, get_or, Some, None, Option, refl, subst, ap, sym, ◌∙◌, arith, add-one, drop-cons}
-use Rattle.std.specs.Prelude.{slice_get, Result, Ok, Err, IfOk}
+use Rattle.std.specs.Prelude.{slice_get, Ok}
 use Rattle.std.proofs.lemmas.Bool.Decides.{nat_tests}
 use Rattle.tm_line.specs.declared.rules.Rule.{Rule}
 use Rattle.tm_line.specs.declared.rules.Found.{Found}
 use Rattle.tm_line.specs.Search.{Candidate, found, earlier, earliest_winner, searches_cost, contributed, listed_candidates}
 use Rattle.tm_line.specs.Searched.{Searches}
-use Rattle.tm_line.proofs.Budgets.{IsPartSpent, none-spent, all-spent, more-spent, part-spent, part-over}
-use Rattle.tm_onig_vm.specs.declared.fault.FindFault.{FindFault}
+use Rattle.tm_line.proofs.Budgets.{IsPartSpent, more-spent}
 
 pub earlier-none : (a : Option Found) → earlier a None ≡ a
 earlier-none None = refl
@@ -42,9 +41,6 @@ module _ (text : List ℕ) (at : ℕ) where
     pub found : earlier first (earliest_winner text at (listed_candidates rules rest)) ≡ earlier best (earliest_winner text at (listed_candidates rules numbers))
     pub spent : IsPartSpent before now (searches_cost text at (listed_candidates rules rest)) (searches_cost text at (listed_candidates rules numbers))
 
-  pub first-searching : (rules : List Rule) (numbers : List ℕ) (best : Option Found) (budget : ℕ) → IsSearching rules numbers numbers best best budget budget
-  first-searching rules numbers best budget = record { found = refl; spent = none-spent budget _ }
-
   module _ (rules : List Rule) (numbers : List ℕ) (i : ℕ) (best first : Option Found) (before now next : ℕ) (lt : i < length numbers) (h : IsSearching rules numbers (drop i numbers) best first before now) where
     abbrev n : ℕ
     n = get_or numbers i 0
@@ -76,46 +72,3 @@ module _ (text : List ℕ) (at : ℕ) where
           ∙ h.found;
       spent = more-spent before now next _ _ _ part s.spends;
     }
-
-    -- a search is refused, and so are all
-    pub err-searching : (fault : FindFault) → Searches (earliest_winner text at one) (searches_cost text at one) now next (Err fault) →
-        Searches (earlier best (earliest_winner text at (listed_candidates rules numbers))) (searches_cost text at (listed_candidates rules numbers)) before next (Err fault)
-    err-searching fault s = record {
-      found = tt;
-      spends = part-spent before now next _ _ _ part s.spends;
-      over = λ budget. part-over before now _ _ _ part (s.over budget);
-    }
-
-  -- all were searched
-  pub end-searching : (rules : List Rule) (numbers rest : List ℕ) (best first : Option Found) (before now : ℕ) → rest ≡ [] → IsSearching rules numbers rest best first before now →
-      Searches (earlier best (earliest_winner text at (listed_candidates rules numbers))) (searches_cost text at (listed_candidates rules numbers)) before now (Ok first)
-  end-searching rules numbers rest best first before now none h =
-      let P : List ℕ → Type 0 = λ l. IsSearching rules numbers l best first before now in
-      let done = subst P none h in
-      record { found = sym (earlier-none first) ∙ done.found; spends = all-spent before now _ done.spent; over = λ budget. absurd cc }
-
-  -- the end, and then what the list has
-  pub both-searched : (xs ys : List Candidate) (best : Option Found) (before now next : ℕ) (result : Result (Option Found) FindFault) →
-      Searches (earliest_winner text at xs) (searches_cost text at xs) before now (Ok best) → Searches (earlier best (earliest_winner text at ys)) (searches_cost text at ys) now next result →
-      Searches (earliest_winner text at (xs ++ ys)) (searches_cost text at (xs ++ ys)) before next result
-  both-searched xs ys best before now next result a b =
-      let sum = searches_cost-append xs ys in
-      let same : earlier best (earliest_winner text at ys) ≡ earliest_winner text at (xs ++ ys) = ap (λ o. earlier o (earliest_winner text at ys)) a.found ∙ sym (earliest_winner-append xs ys) in
-      let c = a.spends.falls in
-      let d = a.spends.most in
-      let e = b.spends.falls in
-      let f = b.spends.most in
-      record {
-        found = subst (λ o. IfOk result (λ found. found ≡ o)) same b.found;
-        spends = record { falls = omega arith; most = omega (arith, sum) };
-        over = λ budget. let lt = b.over budget in omega (arith, sum);
-      }
-
-  -- the end's search is refused
-  pub first-refused : (xs ys : List Candidate) (before now : ℕ) (fault : FindFault) → Searches (earliest_winner text at xs) (searches_cost text at xs) before now (Err fault) →
-      Searches (earliest_winner text at (xs ++ ys)) (searches_cost text at (xs ++ ys)) before now (Err fault)
-  first-refused xs ys before now fault a =
-      let sum = searches_cost-append xs ys in
-      let c = a.spends.falls in
-      let d = a.spends.most in
-      record { found = tt; spends = record { falls = c; most = omega (arith, sum) }; over = λ budget. let lt = a.over budget in omega (arith, sum) }

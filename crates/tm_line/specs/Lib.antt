@@ -1,4 +1,5 @@
 pub mod Advancing
+pub mod Example
 pub mod Grammar
 pub mod Ran
 pub mod Search

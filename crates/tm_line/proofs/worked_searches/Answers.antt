@@ -1,0 +1,29 @@
+use Rattle.std.proofs.Common.{refl}
+use Rattle.regex_class.specs.Ranges.{in_ranges, in_range}
+use Rattle.tm_onig_search.specs.Search.{search_tree, search_row}
+use Rattle.tm_onig_search.specs.Find.{last_group, last_group_of, first_of}
+use Rattle.tm_line.proofs.worked_searches.Goals as goal
+
+pub returns-clause-first : goal.returns-clause-first
+unfolding in_ranges in_range search_tree search_row last_group last_group_of first_of
+returns-clause-first c = refl
+
+pub returns-clause-later : goal.returns-clause-later
+unfolding in_ranges in_range search_tree search_row last_group last_group_of first_of
+returns-clause-later c = refl
+
+pub returns-clause-none : goal.returns-clause-none
+unfolding in_ranges in_range search_tree search_row last_group last_group_of first_of
+returns-clause-none c = refl
+
+pub returns-clause-first_cost : goal.returns-clause-first_cost
+unfolding in_ranges in_range search_tree search_row last_group last_group_of first_of
+returns-clause-first_cost c = refl
+
+pub returns-clause-later_cost : goal.returns-clause-later_cost
+unfolding in_ranges in_range search_tree search_row last_group last_group_of first_of
+returns-clause-later_cost c = refl
+
+pub returns-clause-none_cost : goal.returns-clause-none_cost
+unfolding in_ranges in_range search_tree search_row last_group last_group_of first_of
+returns-clause-none_cost c = refl
