@@ -7,7 +7,7 @@ use Rattle.tm_defs.specs.declared.frames.FrameData.{FrameData}
 use Rattle.tm_defs.specs.declared.frames.StateId.{StateId}
 use Rattle.tm_defs.specs.declared.tokenizer.LineFault.{LineFault}
 use Rattle.tm_defs.specs.Tables.{Tables, TableEntries, GrowsWithin, more_made, state_at}
-use Rattle.tm_defs.proofs.Growth.{AreAmong, tables-trans, tables-refl}
+use Rattle.tm_defs.proofs.Growth.{AreAmong, tables-trans}
 use Rattle.tm_defs.proofs.Chains.{left-among, right-among, state_at-is}
 use Rattle.tm_line_run.specs.LineRun.{Piece, Place, Outcome, Turn, Stops, GoesOn, stack_of, some_open, after}
 use Rattle.tm_line_run.specs.Painted.{painted}

@@ -1,17 +1,17 @@
 -- A match takes at least its pattern's least width, and ends within the text.
-use Rattle.std.proofs.Common.{◌≡◌, ℕ, zero, suc, ◌+◌, ◌-◌, ◌*◌, ◌<◌, ◌≤◌, Bool, true, false, cond, List, [], ◌∷◌, length, Option, Some, None, slice_get, ◌==◌, nat_lt, ◌⊎◌, inl, inr, ⊎_elim, refl, ap, sym, ◌∙◌, subst, arith}
+use Rattle.std.proofs.Common.{◌≡◌, ℕ, zero, suc, ◌+◌, ◌-◌, ◌*◌, ◌<◌, ◌≤◌, Bool, true, false, cond, List, [], ◌∷◌, length, Option, Some, None, slice_get, ◌==◌, nat_lt, ◌⊎◌, inl, inr, ⊎_elim, refl, ap, sym, ◌∙◌, arith}
 use Rattle.std.proofs.Math.Nat.{zero-mul, suc-mul, mul-le-mul_right, min-le_left, min-le_right}
 use Rattle.std.proofs.lemmas.Option.{slice_get_within}
 use Rattle.std.proofs.lemmas.Bool.{eqb-true}
 use Rattle.std.proofs.lemmas.Bool.Decides.{nat_tests}
-use Rattle.std.specs.Prelude.{slice_set, min, drop, slice_range, option_and_then}
+use Rattle.std.specs.Prelude.{slice_set, drop, slice_range}
 use Rattle.tm_onig_class.specs.Tree.{Tree, Empty, Char, Any, InSet, Cat, Alt, Group, Atomic, Repeat, Look, Back, Holds, Trees, NoTrees, More}
 use Rattle.tm_onig_class.specs.Widths.{least_width, widths_sum, widths_least}
 use Rattle.tm_onig_search.specs.Widths.{greatest_width}
 use Rattle.tm_onig_search.specs.Outcomes.{Caps, Hit, Outcome, Rest, fail, accept, looked, prefer}
 use Rattle.tm_onig_search.specs.Places.{Subject, subject, passes, begins, holds}
 use Rattle.tm_onig_search.specs.Search.{one, look_back, at_goal, is_at, choose, read_group, last_set, rounds, search_tree, search_row, search_any}
-use Rattle.tm_onig_search.specs.Find.{blank, with_whole, first_match}
+use Rattle.tm_onig_search.specs.Find.{blank, first_match}
 use Rattle.tm_onig_search.proofs.Reading.{begins_within}
 use Rattle.tm_onig_search.proofs.Hits.{or_else_hit, cond_hit, then_hit, if_none_hit, fail_hit}
 use Rattle.tm_onig_search.proofs.Least.{is_least}

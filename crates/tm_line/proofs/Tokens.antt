@@ -9,7 +9,7 @@ use Rattle.tm_defs.specs.declared.tables.TableFault.{TableFault}
 use Rattle.tm_defs.specs.declared.tokenizer.LineFault.TheVariants as fault
 use Rattle.tm_defs.specs.declared.tokenizer.LineFault.{LineFault}
 use Rattle.tm_defs.specs.declared.tokenizer.LineOut.{LineOut}
-use Rattle.tm_defs.specs.Tables.{Tables, TableEntries, GrowsWithin, IsFullForSome, state_at}
+use Rattle.tm_defs.specs.Tables.{Tables, GrowsWithin, IsFullForSome, state_at}
 use Rattle.tm_defs.specs.Tokenizer.{IsLineCause}
 use Rattle.tm_defs.proofs.Chains.{grows-left, grows-then, full-first, right-among, state_at-is}
 use Rattle.tm_line_run.specs.LineRun.{Outcome, some_open, line_run}

@@ -1,5 +1,5 @@
 -- Rules whose patterns take at least one character, so that every match moves forward.
-use Rattle.std.specs.Prelude.{ℕ, Bool, true, ◌&&◌, nat_lt}
+use Rattle.std.specs.Prelude.{Bool, true, ◌&&◌, nat_lt}
 use Rattle.tm_onig_class.specs.declared.patterns.Pattern.{Pattern}
 use Rattle.tm_onig_class.specs.Tree.{tree_of}
 use Rattle.tm_onig_class.specs.Widths.{least_width}

@@ -1,6 +1,6 @@
 -- Worked searches: two candidates in one text, a digit and the begin of a comment.
 use Rattle.std.specs.Prelude.{ℕ, List, [], ◌∷◌, ◌++◌, Option, Some, false, codes}
-use Rattle.tm_onig_class.specs.Tree.{Tree, Char, InSet, Cat, NoTrees, More}
+use Rattle.tm_onig_class.specs.Tree.{Char, InSet, Cat, NoTrees, More}
 use Rattle.tm_line.specs.declared.rules.Found.{Found}
 use Rattle.tm_line.specs.Search.{Candidate, candidate_of}
 

@@ -10,7 +10,6 @@ ghost use Rattle.tm_line.specs.Ran.{Tokenizes};
 ghost use Rattle.tm_line.specs.Setting.{setting_of};
 ghost use Rattle.tm_line.specs.Tokenizing.{start_state, start_made, top_contents};
 
-use tm_literal::metadata::{base_metadata, metadata};
 use crate::rules::Rule;
 use crate::run::run;
 use crate::tables::{longer_list, push_frame};
@@ -24,6 +23,7 @@ use tm_defs::tables::{States, TableFault};
 use tm_defs::texts::{Line, Name};
 use tm_defs::tokenizer::{LineFault, LineOut, LineTok};
 use tm_line_run::painter::{Painted, tokens_of};
+use tm_literal::metadata::{base_metadata, metadata};
 
 /// A setting. Rule 0 is the root, and each match of a pattern takes a character.
 #[derive(Drop)]

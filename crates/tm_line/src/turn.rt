@@ -13,7 +13,6 @@ ghost use Rattle.tm_literal.specs.Metadata.{metadata_of};
 ghost use Rattle.tm_line.specs.Tokenizing.{place_of};
 ghost use Rattle.tm_line.specs.Turned.{Does, IsHere, Takes, of_search, of_table, place_here, taken_turn, turn_of};
 
-use tm_literal::metadata::paint;
 use crate::rules::{Found, Rule};
 use crate::search::{rule_at, winner};
 use crate::tables::{named_list, push_frame};
@@ -23,6 +22,7 @@ use tm_defs::tables::{States, TableFault};
 use tm_defs::texts::{Line, Name};
 use tm_defs::tokenizer::LineFault;
 use tm_line_run::painter::Painted;
+use tm_literal::metadata::paint;
 use tm_onig_vm::fault::FindFault;
 
 /// Where a line stands: its state, that state's innermost frame and the state without it, and the
