@@ -5,14 +5,12 @@ use Rattle.std.specs.List.{list_all}
 use Rattle.std.proofs.lemmas.List.Folds.{list_all_at}
 use Rattle.std.proofs.lemmas.Bool.Decides.{nat_tests}
 use Rattle.std.proofs.lemmas.Option.{slice_get_within, get_or_from_slice_get}
-use Rattle.tm_onig_class.specs.declared.patterns.Pattern.{Pattern}
-use Rattle.tm_onig_class.specs.Tree.{Tree, tree_of}
+use Rattle.tm_onig_class.specs.Tree.{Tree}
 use Rattle.tm_onig_class.specs.Widths.{least_width}
 use Rattle.tm_onig_search.specs.Outcomes.{Caps}
 use Rattle.tm_onig_search.specs.Find.{first_match}
 use Rattle.tm_line_run.specs.Laws.{IsAhead, IsWinnerAhead, FindsForward}
-use Rattle.tm_line.specs.declared.rules.Rule.{Rule}
-use Rattle.tm_line.specs.declared.rules.Rule.TheVariants.{Match, BeginEnd, Only}
+use Rattle.tm_line.specs.Rules.{Rule, Match, BeginEnd, Only}
 use Rattle.tm_line.specs.declared.rules.Found.{Found}
 use Rattle.tm_line.specs.Advancing.{is_wide, advances}
 use Rattle.tm_line.specs.Search.{Candidate, whole_match, span_found, found, earlier, earliest_winner, contributed, listed_candidates, end_candidate, candidates_in, flattened_candidates}
@@ -40,7 +38,7 @@ right-true : (a b : Bool) → (a && b) ≡ true → b ≡ true
 right-true true b e = e
 right-true false b e = absurd cc
 
-is-wide : (pattern : Pattern) → is_wide pattern ≡ true → 0 < least_width (tree_of pattern)
+is-wide : (pattern : Tree) → is_wide pattern ≡ true → 0 < least_width pattern
 is-wide pattern e = grind (arith, nat_tests)
 
 module _ (rules : List Rule) (wide : IsTrue (list_all advances rules)) where
@@ -71,7 +69,7 @@ module _ (rules : List Rule) (wide : IsTrue (list_all advances rules)) where
   candidates-wide : (has_end : Bool) (rule : ℕ) (r : Option Rule) → slice_get rules rule ≡ r → AreWide (candidates_in rules has_end r)
   candidates-wide has_end rule (Some (Match pattern name)) e = tt
   candidates-wide has_end rule (Some (BeginEnd begin end name patterns)) e =
-      wide-append (end_candidate has_end (tree_of end)) (listed_candidates rules patterns) (end-wide has_end (tree_of end) (is-wide end (right-true (is_wide begin) (is_wide end) (rule-wide rule _ e)))) (listed-wide patterns)
+      wide-append (end_candidate has_end end) (listed_candidates rules patterns) (end-wide has_end end (is-wide end (right-true (is_wide begin) (is_wide end) (rule-wide rule _ e)))) (listed-wide patterns)
   candidates-wide has_end rule (Some (Only patterns)) e = listed-wide patterns
   candidates-wide has_end rule None e = tt
 

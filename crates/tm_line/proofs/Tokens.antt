@@ -17,7 +17,7 @@ use Rattle.tm_line_run.specs.Painted.{painted, furthest, meta_at, runs_of}
 use Rattle.tm_line_run.specs.declared.painter.Painted.{Painted}
 use Rattle.tm_line_run.proofs.Reach.{line_run-reach}
 use Rattle.tm_line_run.proofs.Runs.{runs-painted}
-use Rattle.tm_line.specs.declared.rules.Rule.{Rule}
+use Rattle.tm_line.specs.Rules.{Rule}
 use Rattle.tm_line.specs.Advancing.{advances}
 use Rattle.tm_line.specs.Grammar.{rules_grammar}
 use Rattle.tm_literal.specs.Metadata.{metadata_of}

@@ -13,8 +13,7 @@ use Rattle.tm_defs.proofs.Growth.{slice_get-grown, tables-refl}
 use Rattle.tm_line_run.specs.LineRun.{Place, Grammar, Turn, Stops, GoesOn, stack_of, paints, names_made, opened, some_open, rests, ended, begun, matched, by_winner, paid, turn}
 use Rattle.tm_line_run.specs.Painted.{painted}
 use Rattle.tm_line_run.specs.declared.painter.Painted.{Painted}
-use Rattle.tm_line.specs.declared.rules.Rule.{Rule}
-use Rattle.tm_line.specs.declared.rules.Rule.TheVariants.{Match, BeginEnd, Only}
+use Rattle.tm_line.specs.Rules.{Rule, Match, BeginEnd, Only}
 use Rattle.tm_line.specs.declared.rules.Found.{Found}
 use Rattle.tm_line.specs.declared.turn.Here.{Here}
 use Rattle.tm_line.specs.declared.turn.Next.{Next}

@@ -2,7 +2,7 @@
 use Rattle.std.proofs.Common.{◌≡◌, ℕ, ◌+◌, ◌<◌, ◌++◌, Bool, true, false, cond, nat_lt, List, [], ◌∷◌, length, drop, get_or, Some, None, Option, refl, subst, ap, sym, ◌∙◌, arith, add-one, drop-cons}
 use Rattle.std.specs.Prelude.{slice_get, Ok}
 use Rattle.std.proofs.lemmas.Bool.Decides.{nat_tests}
-use Rattle.tm_line.specs.declared.rules.Rule.{Rule}
+use Rattle.tm_line.specs.Rules.{Rule}
 use Rattle.tm_line.specs.declared.rules.Found.{Found}
 use Rattle.tm_line.specs.Search.{Candidate, found, earlier, earliest_winner, searches_cost, contributed, listed_candidates}
 use Rattle.tm_line.specs.Searched.{Searches}

@@ -1,14 +1,12 @@
 -- Rules whose patterns take at least one character, so that every match moves forward.
 use Rattle.std.specs.Prelude.{Bool, true, ◌&&◌, nat_lt}
-use Rattle.tm_onig_class.specs.declared.patterns.Pattern.{Pattern}
-use Rattle.tm_onig_class.specs.Tree.{tree_of}
+use Rattle.tm_onig_class.specs.Tree.{Tree}
 use Rattle.tm_onig_class.specs.Widths.{least_width}
-use Rattle.tm_line.specs.declared.rules.Rule.{Rule}
-use Rattle.tm_line.specs.declared.rules.Rule.TheVariants.{Match, BeginEnd, Only}
+use Rattle.tm_line.specs.Rules.{Rule, Match, BeginEnd, Only}
 
 -- the least width of the pattern is at least 1
-abbrev pub is_wide : Pattern → Bool
-is_wide pattern = nat_lt 0 (least_width (tree_of pattern))
+abbrev pub is_wide : Tree → Bool
+is_wide pattern = nat_lt 0 (least_width pattern)
 
 abbrev pub advances : Rule → Bool
 advances (Match pattern name) = is_wide pattern

@@ -3,8 +3,7 @@ use Rattle.std.specs.Prelude.{ℕ, List, [], length, Option, Some, None, slice_g
 use Rattle.std.specs.Option.{option_to_list}
 use Rattle.tm_line_run.specs.LineRun as line
 use Rattle.tm_line_run.specs.LineRun.{Winner, Nothing, Ends, Begins, Matches, Grammar}
-use Rattle.tm_line.specs.declared.rules.Rule.{Rule}
-use Rattle.tm_line.specs.declared.rules.Rule.TheVariants.{Match, BeginEnd, Only}
+use Rattle.tm_line.specs.Rules.{Rule, Match, BeginEnd, Only}
 use Rattle.tm_line.specs.declared.rules.Found.{Found}
 use Rattle.tm_line.specs.Search.{earliest_winner, searches_cost, flattened_candidates}
 

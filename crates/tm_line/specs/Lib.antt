@@ -2,6 +2,7 @@ pub mod Advancing
 pub mod Example
 pub mod Grammar
 pub mod Ran
+pub mod Rules
 pub mod Search
 pub mod Searched
 pub mod SearchLaws

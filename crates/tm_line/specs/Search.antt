@@ -1,10 +1,9 @@
 -- Which candidate is found first, and what the searches for it cost.
 use Rattle.std.specs.Prelude.{ℕ, ◌+◌, List, [], ◌∷◌, ◌++◌, Bool, true, false, if◌then◌else◌, Option, Some, None, option_and_then, nat_lt, slice_get}
-use Rattle.tm_onig_class.specs.Tree.{Tree, tree_of}
+use Rattle.tm_onig_class.specs.Tree.{Tree}
 use Rattle.tm_onig_search.specs.Outcomes.{Caps}
 use Rattle.tm_onig_search.specs.Find.{first_match, search_cost}
-use Rattle.tm_line.specs.declared.rules.Rule.{Rule}
-use Rattle.tm_line.specs.declared.rules.Rule.TheVariants.{Match, BeginEnd, Only}
+use Rattle.tm_line.specs.Rules.{Rule, Match, BeginEnd, Only}
 use Rattle.tm_line.specs.declared.rules.Found.{Found}
 
 -- a pattern that is searched, and the rule that it starts; the end of the open rule starts none
@@ -52,8 +51,8 @@ searches_cost text at (c ∷ cs) = found_cost text at c + searches_cost text at 
 -- what a rule of this number contributes to a list: its own pattern. A list inside a list contributes
 -- nothing here, nor does a number without a rule
 abbrev pub contributed : ℕ → Option Rule → List Candidate
-contributed n (Some (Match pattern name)) = candidate_of (Some n) (tree_of pattern) ∷ []
-contributed n (Some (BeginEnd begin end name patterns)) = candidate_of (Some n) (tree_of begin) ∷ []
+contributed n (Some (Match pattern name)) = candidate_of (Some n) pattern ∷ []
+contributed n (Some (BeginEnd begin end name patterns)) = candidate_of (Some n) begin ∷ []
 contributed n (Some (Only patterns)) = []
 contributed n None = []
 
@@ -68,7 +67,7 @@ end_candidate false end = []
 abbrev pub candidates_in : List Rule → Bool → Option Rule → List Candidate
 candidates_in rules has_end (Some (Match pattern name)) = []
 candidates_in rules has_end (Some (BeginEnd begin end name patterns)) =
-    end_candidate has_end (tree_of end) ++ listed_candidates rules patterns
+    end_candidate has_end end ++ listed_candidates rules patterns
 candidates_in rules has_end (Some (Only patterns)) = listed_candidates rules patterns
 candidates_in rules has_end None = []
 

@@ -13,8 +13,7 @@ use Rattle.tm_line.specs.Searched.{Spends}
 use Rattle.tm_line_run.specs.LineRun.{Place, Part, Turn, Stops, GoesOn, stack_of, rests, ended, begun, matched}
 use Rattle.tm_line_run.specs.Painted.{painted}
 use Rattle.tm_line_run.specs.declared.painter.Painted.{Painted}
-use Rattle.tm_line.specs.declared.rules.Rule.{Rule}
-use Rattle.tm_line.specs.declared.rules.Rule.TheVariants.{Match, BeginEnd, Only}
+use Rattle.tm_line.specs.Rules.{Rule, Match, BeginEnd, Only}
 use Rattle.tm_line.specs.declared.rules.Found.{Found}
 use Rattle.tm_line.specs.declared.turn.Here.{Here}
 use Rattle.tm_line.specs.declared.turn.Next.{Next}

@@ -20,10 +20,10 @@
 ghost use Rattle.std.specs.Prelude.{◌≡◌, ℕ, List, IsTrue, None};
 ghost use Rattle.std.specs.List.{list_all};
 ghost use Rattle.tm_line_run.specs.Laws.{IsLineRun};
-ghost use Rattle.tm_line.specs.declared.rules.Rule.{Rule};
 ghost use Rattle.tm_line.specs.Advancing.{advances};
 ghost use Rattle.tm_line.specs.Example.{candidates, rule_at, text};
 ghost use Rattle.tm_line.specs.Grammar.{rules_grammar};
+ghost use Rattle.tm_line.specs.Rules.{Rule};
 ghost use Rattle.tm_line.specs.Search.{Candidate, earliest_winner, searches_cost};
 ghost use Rattle.tm_line.specs.SearchLaws.{IsEarliest};
 

@@ -5,6 +5,7 @@ ghost use Rattle.tm_line_run.specs.Laws.{FindsForward};
 ghost use Rattle.tm_line_run.specs.LineRun.{some_open, line_run};
 ghost use Rattle.tm_line.specs.Grammar.{rules_grammar};
 ghost use Rattle.tm_line.specs.Ran.{Ran};
+ghost use Rattle.tm_line.specs.Rules.{rules_data};
 ghost use Rattle.tm_line.specs.Tokenizing.{place_of};
 
 use crate::rules::Rule;
@@ -30,10 +31,10 @@ pub fn run<S: States>(
 ) -> Result<StateId, LineFault>
     requires start { start.0 < length (S.tables table.old).states }
     requires some { IsTrue (some_open (reverse (state_at (S.tables table.old) start))) }
-    requires forward { FindsForward (rules_grammar rules.now text.now) }
+    requires forward { FindsForward (rules_grammar (rules_data rules.now) text.now) }
     requires small { length text.now < 2 ^ 31 }
     ensures { let p = place_of (reverse (state_at (S.tables table.old) start)) 0 in
-        Ran (line_run (rules_grammar rules.now text.now) p)
+        Ran (line_run (rules_grammar (rules_data rules.now) text.now) p)
         (S.tables table.old) (S.tables table.new) pieces.old.items pieces.new.items
         budget.old budget.new result }
 {

@@ -3,9 +3,10 @@
 //! Candidates are searched one after the other, each from the same position to the text's end, and
 //! what one search leaves of the budget is the budget of the next. A line with many candidates and
 //! many turns so searches each of them at each turn.
-ghost use Rattle.std.specs.Prelude.{◌≡◌, ◌≤◌, ◌<◌, ◌^◌, length, slice_get, Some, None};
+ghost use Rattle.std.specs.Prelude.{◌≡◌, ◌≤◌, ◌<◌, ◌^◌, length, option_map, slice_get, Some, None};
 ghost use Rattle.std.specs.Option.{option_copied};
 ghost use Rattle.tm_onig_class.specs.Tree.{tree_of};
+ghost use Rattle.tm_line.specs.Rules.{rule_data, rules_data};
 ghost use Rattle.tm_line.specs.Search.{candidate_of, span_found, whole_match, found, found_cost, earlier, earliest_winner, searches_cost, contributed, listed_candidates, end_candidate, flattened_candidates};
 ghost use Rattle.tm_line.specs.Searched.{Searches};
 
@@ -84,7 +85,7 @@ fn start_of(
 ) -> Result<Option<Found>, FindFault>
     requires within { at ≤ length text.now }
     requires small { length text.now < 2 ^ 31 }
-    ensures { let cs = contributed n (slice_get rules.now n) in
+    ensures { let cs = contributed n (slice_get (rules_data rules.now) n) in
         Searches (earliest_winner text.now at cs) (searches_cost text.now at cs)
         budget.old budget.new result }
 {
@@ -117,7 +118,7 @@ fn earliest_start(
 ) -> Result<Option<Found>, FindFault>
     requires within { at ≤ length text.now }
     requires small { length text.now < 2 ^ 31 }
-    ensures { let cs = listed_candidates rules.now patterns.now in
+    ensures { let cs = listed_candidates (rules_data rules.now) patterns.now in
         Searches (earlier best (earliest_winner text.now at cs)) (searches_cost text.now at cs)
         budget.old budget.new result }
 {
@@ -168,7 +169,7 @@ pub fn winner(
 ) -> Result<Option<Found>, FindFault>
     requires within { at ≤ length text.now }
     requires small { length text.now < 2 ^ 31 }
-    ensures { let cs = flattened_candidates rules.now has_end rule in
+    ensures { let cs = flattened_candidates (rules_data rules.now) has_end rule in
         Searches (earliest_winner text.now at cs) (searches_cost text.now at cs)
         budget.old budget.new result }
 {
@@ -199,6 +200,12 @@ pub fn winner(
 
 /// The rule of a number.
 pub fn rule_at(rules: &[Rule], n: u32) -> Option<&Rule>
+    ensures { option_map rule_data (option_copied result) ≡ slice_get (rules_data rules.now) n }
+{
+    listed_rule(rules, n)
+}
+
+fn listed_rule(rules: &[Rule], n: u32) -> Option<&Rule>
     ensures { option_copied result ≡ slice_get rules.now n }
 {
     rules.get(n as usize)

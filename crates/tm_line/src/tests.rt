@@ -1,6 +1,8 @@
 ghost use Rattle.std.specs.Prelude.{◌≡◌, ◌<◌, ◌-◌, ◌^◌, [], length, IfOk, IsTrue};
 ghost use Rattle.std.specs.List.{list_all};
 ghost use Rattle.tm_line.specs.Advancing.{advances};
+ghost use Rattle.tm_line.specs.Rules.{rules_data};
+ghost use Rattle.tm_line.specs.Setting.{setting_data};
 ghost use Rattle.tm_line.specs.Tokenizing.{rules_tokenized};
 
 use crate::rules::Rule;
@@ -111,7 +113,7 @@ fn text(alloc: Global, chars: &str) -> Result<Vec<char>, Fail> {
 /// A list whose only rule matches `b` without a name.
 #[tactic(auto, using(tm_onig_class::proofs::Trees::nodes), unfolding(tm_onig_class::specs::Widths::least_width))]
 fn bare_rules(alloc: Global) -> Result<Vec<Rule>, Fail>
-    ensures { IfOk result (λ rules. IsTrue (list_all advances rules.items)) }
+    ensures { IfOk result (λ rules. IsTrue (list_all advances (rules_data rules.items))) }
 {
     let letter = Pattern::Char {
         c: 'b',
@@ -136,7 +138,7 @@ fn tokenized<S: States, L: Ledger>(
     steps: &mut Steps<L>,
 ) -> Result<LineOut, LineFault>
     requires { length line.now < 2 ^ 31 - 1 }
-    ensures { IfOk result (λ out. out.tokens ≡ (rules_tokenized setting.now [] line.now).tokens) }
+    ensures { IfOk result (λ out. out.tokens ≡ (rules_tokenized (setting_data setting.now) [] line.now).tokens) }
 {
     table.known();
     setting.line(table, StateId(0), line, budget, steps)

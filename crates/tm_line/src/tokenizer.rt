@@ -7,7 +7,8 @@ ghost use Rattle.tm_line_run.specs.Painted.{furthest, meta_at, runs_of};
 ghost use Rattle.tm_line.specs.Advancing.{advances};
 ghost use Rattle.tm_literal.specs.Metadata.{metadata_of};
 ghost use Rattle.tm_line.specs.Ran.{Tokenizes};
-ghost use Rattle.tm_line.specs.Setting.{setting_of};
+ghost use Rattle.tm_line.specs.Rules.{rules_data};
+ghost use Rattle.tm_line.specs.Setting.{setting_of, setting_data};
 ghost use Rattle.tm_line.specs.Tokenizing.{start_state, start_made, top_contents};
 
 use crate::rules::Rule;
@@ -38,24 +39,25 @@ impl Model for Setting {
     ghost use Rattle.std.specs.Prelude.{IsTrue};
     ghost use Rattle.std.specs.List.{list_all};
     ghost use Rattle.tm_onig_class.specs.contracts.patterns.Pattern as pattern;
-    ghost use Rattle.tm_line.specs.Setting.{Setting};
+    ghost use Rattle.tm_line.specs.Setting.{BuiltSetting};
+    ghost use Rattle.tm_line.specs.Rules.{rules_data};
     ghost use Rattle.tm_line.specs.Advancing.{advances};
 
-    ghost Value = { Setting };
+    ghost Value = { BuiltSetting };
 
     ghost coded = { Prim.hlevel (codes, pattern.the_row.coded) };
 
     ghost view = { λ a. record { scope = a.scope; rules = a.rules.items } };
 
-    ghost invariant = { λ a. IsTrue (list_all advances a.rules.items) };
+    ghost invariant = { λ a. IsTrue (list_all advances (rules_data a.rules.items)) };
 }
 
 impl Setting {
     /// A setting of these rules. `scope` is the grammar's scope, which every token has; each line takes
     /// its buffers from `alloc`.
     pub fn build(alloc: Global, scope: Name, rules: Vec<Rule>) -> Self
-        requires wide { IsTrue (list_all advances rules.items) }
-        ensures { result ≡ setting_of scope rules.items }
+        requires wide { IsTrue (list_all advances (rules_data rules.items)) }
+        ensures { setting_data result ≡ setting_of scope (rules_data rules.items) }
     {
         Setting {
             scope,
@@ -142,8 +144,8 @@ fn tokenized_line<S: States>(
 ) -> Result<LineOut, LineFault>
     requires start { start.0 < length (S.tables table.old).states }
     requires short { length line.now < 2 ^ 31 - 1 }
-    requires wide { IsTrue (list_all advances rules.now) }
-    ensures { Tokenizes (setting_of scope.now rules.now) (state_at (S.tables table.old) start) line.now
+    requires wide { IsTrue (list_all advances (rules_data rules.now)) }
+    ensures { Tokenizes (setting_of scope.now (rules_data rules.now)) (state_at (S.tables table.old) start) line.now
         (S.tables table.old) (S.tables table.new) budget result }
 {
     let Ok(chars) = with_break(alloc, line) else {
@@ -163,12 +165,12 @@ fn tokenized_line<S: States>(
 }
 
 impl LineTok for Setting {
-    ghost use Rattle.tm_line.specs.Setting.{Setting};
+    ghost use Rattle.tm_line.specs.Setting.{Setting, setting_data};
     ghost use Rattle.tm_line.specs.Tokenizing.{rules_tokenized, rules_cost, rules_made};
 
     ghost Plain = { Setting };
 
-    ghost plain = { λ s. s };
+    ghost plain = { setting_data };
 
     ghost tokenized = { rules_tokenized };
 

@@ -10,6 +10,7 @@ ghost use Rattle.tm_line_run.specs.Painted.{painted};
 ghost use Rattle.tm_line_run.specs.LineRun.{names_made, opened, paints, some_open, rests, ended, matched, begun, turn as turn_at};
 ghost use Rattle.tm_line.specs.Grammar.{match_of, rules_grammar};
 ghost use Rattle.tm_literal.specs.Metadata.{metadata_of};
+ghost use Rattle.tm_line.specs.Rules.{rules_data};
 ghost use Rattle.tm_line.specs.Tokenizing.{place_of};
 ghost use Rattle.tm_line.specs.Turned.{Does, IsHere, Takes, of_search, of_table, place_here, taken_turn, turn_of};
 
@@ -238,7 +239,7 @@ fn starts<S: States>(
 ) -> Result<Next, TableFault>
     requires { IsHere (S.tables table.old) here }
     ensures { let p = place_here (S.tables table.old) here in
-        Does (turn_of len p found n (slice_get rules.now n))
+        Does (turn_of len p found n (slice_get (rules_data rules.now) n))
         (S.tables table.old) (S.tables table.new) pieces.old.items pieces.new.items result }
 {
     match rule_at(rules, n) {
@@ -296,7 +297,7 @@ fn taken<S: States>(
 ) -> Result<Next, TableFault>
     requires { IsHere (S.tables table.old) here }
     ensures { let p = place_here (S.tables table.old) here in
-        Does (taken_turn rules.now len p winner)
+        Does (taken_turn (rules_data rules.now) len p winner)
         (S.tables table.old) (S.tables table.new) pieces.old.items pieces.new.items result }
 {
     match winner {
@@ -324,7 +325,7 @@ pub fn turn<S: States>(
     requires within { at ≤ length text.now }
     requires small { length text.now < 2 ^ 31 }
     ensures { let p = place_of (reverse (state_at (S.tables table.old) state)) at in
-        Takes (turn_at (rules_grammar rules.now text.now) p)
+        Takes (turn_at (rules_grammar (rules_data rules.now) text.now) p)
         (S.tables table.old) (S.tables table.new) pieces.old.items pieces.new.items
         budget.old budget.new result }
 {

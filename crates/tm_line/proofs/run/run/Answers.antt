@@ -4,12 +4,13 @@ use Rattle.tm_line_run.specs.LineRun.{turn, line_run}
 use Rattle.tm_line_run.proofs.Turns.{turn-falls, line_run-turn}
 use Rattle.tm_line.specs.Grammar.{rules_grammar}
 use Rattle.tm_line.specs.Tokenizing.{place_of}
+use Rattle.tm_line.specs.Rules.{rules_data}
 use Rattle.tm_line.proofs.Lines.{goes-left, err-left, stops-left, leads-within, at-place}
 use Rattle.tm_line.proofs.run.run.Goals as goal
 
 pub loop-next-preserved : goal.loop-next-preserved
 loop-next-preserved g c =
-    let grammar = rules_grammar c.args.rules.now c.args.text.now in
+    let grammar = rules_grammar (rules_data c.args.rules.now) c.args.text.now in
     let u = g.S.States.tables c.loop-next.table in
     let p = place_of (reverse (state_at u c.loop-next.state)) c.loop-next.at in
     let within = at-place (length c.args.text.now) (reverse (state_at u c.loop-next.state)) c.loop-next.at c.loop-next.invariant.within in
@@ -25,7 +26,7 @@ loop-next-preserved g c =
 
 pub returns-in-Ok-Stops : goal.returns-in-Ok-Stops
 returns-in-Ok-Stops g c =
-    let grammar = rules_grammar c.args.rules.now c.args.text.now in
+    let grammar = rules_grammar (rules_data c.args.rules.now) c.args.text.now in
     let u = g.S.States.tables c.loop-next.table in
     let p = place_of (reverse (state_at u c.loop-next.state)) c.loop-next.at in
     let within = at-place (length c.args.text.now) (reverse (state_at u c.loop-next.state)) c.loop-next.at c.loop-next.invariant.within in
@@ -34,7 +35,7 @@ returns-in-Ok-Stops g c =
 
 pub returns-in-Err : goal.returns-in-Err
 returns-in-Err g c =
-    let grammar = rules_grammar c.args.rules.now c.args.text.now in
+    let grammar = rules_grammar (rules_data c.args.rules.now) c.args.text.now in
     let u = g.S.States.tables c.loop-next.table in
     let p = place_of (reverse (state_at u c.loop-next.state)) c.loop-next.at in
     let within = at-place (length c.args.text.now) (reverse (state_at u c.loop-next.state)) c.loop-next.at c.loop-next.invariant.within in

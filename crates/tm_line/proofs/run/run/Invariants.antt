@@ -4,6 +4,7 @@ use Rattle.tm_defs.specs.Tables.{state_at}
 use Rattle.tm_line_run.specs.LineRun.{some_open, line_run}
 use Rattle.tm_line.specs.Grammar.{rules_grammar}
 use Rattle.tm_line.specs.Tokenizing.{place_of}
+use Rattle.tm_line.specs.Rules.{rules_data}
 use Rattle.tm_line.proofs.Lines.{IsLeft}
 use Rattle.tm_line.proofs.run.run.Given as goal
 
@@ -13,8 +14,8 @@ invariant-loop-next g l = record {
   some : IsTrue (some_open (reverse (state_at (g.S.States.tables l.table) l.state)));
   within : l.at ≤ length l.text;
   left : IsLeft (g.S.States.tables l.fn.table) (g.S.States.tables l.table) l.fn.pieces.items l.pieces.items l.fn.budget l.budget
-      (line_run (rules_grammar l.rules l.text) (place_of (reverse (state_at (g.S.States.tables l.fn.table) l.fn.start)) 0))
-      (line_run (rules_grammar l.rules l.text) (place_of (reverse (state_at (g.S.States.tables l.table) l.state)) l.at));
+      (line_run (rules_grammar (rules_data l.rules) l.text) (place_of (reverse (state_at (g.S.States.tables l.fn.table) l.fn.start)) 0))
+      (line_run (rules_grammar (rules_data l.rules) l.text) (place_of (reverse (state_at (g.S.States.tables l.table) l.state)) l.at));
 }
 
 abbrev pub decreases-loop-next : goal.decreases-loop-next

@@ -1,0 +1,18 @@
+-- Rules as plain data: each pattern is its tree.
+use Rattle.std.specs.Prelude.{ℕ, List, map, Option}
+use Rattle.tm_onig_class.specs.Tree.{Tree, tree_of}
+use Rattle.tm_line.specs.declared.rules.Rule as code
+use Rattle.tm_line.specs.declared.rules.Rule.TheVariants as variant
+
+pub data Rule : Type 0 where
+  Match : Tree → Option (List ℕ) → Rule
+  BeginEnd : Tree → Tree → Option (List ℕ) → List ℕ → Rule
+  Only : List ℕ → Rule
+
+abbrev pub rule_data : code.Rule → Rule
+rule_data (variant.Match pattern name) = Match (tree_of pattern) name
+rule_data (variant.BeginEnd begin end name patterns) = BeginEnd (tree_of begin) (tree_of end) name patterns
+rule_data (variant.Only patterns) = Only patterns
+
+abbrev pub rules_data : List code.Rule → List Rule
+rules_data rules = map rule_data rules
