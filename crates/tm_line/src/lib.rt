@@ -5,27 +5,29 @@
 //! scopes and states by number (`turn`), and what is painted becomes tokens in the end (`tokenizer`).
 //! Each search takes its steps from the line's budget.
 //!
-//! Take a rule that matches `[0-9]` and one that begins at `/*`. In the line `1 /*2` the first turn
-//! finds the digit at 0, and the next, from 1 on, the begin at 2 before the digit at 4:
+//! Take a rule 1 that matches `[0-9]` as string.t, and a rule 2 from `/*` to `*/` as comment.t with
+//! digits in it. The line `1 /*2` takes four turns, where all candidates of the open rule are searched:
 //!
-//! | From | The digit | The begin | Winner | Steps |
+//! | From | `[0-9]` | `/*` or `*/` | Found | Steps |
 //! |---|---|---|---|---|
-//! | 0 | 0 to 1 | 2 to 4 | the digit | 2 + 8 |
-//! | 1 | 4 to 5 | 2 to 4 | the begin | 5 + 6 |
-//! | 5 | none | none | none | 2 + 4 |
+//! | 0, in the root | 0 to 1 | 2 to 4 | the digit | 2 + 8 |
+//! | 1, in the root | 4 to 5 | 2 to 4 | the comment's begin | 5 + 6 |
+//! | 4, in the comment | 4 to 5 | none | the digit | 2 + 6 |
+//! | 5, in the comment | none | none | nothing: the line stops | 2 + 4 |
 //!
-//! A start at which a letter fails takes 1 step for the digit, and 2 for the begin, which is a row.
+//! A start at which the search fails takes 1 step for the digit, and 2 for a row of two letters.
 #![tactic(auto)]
 
-ghost use Rattle.std.specs.Prelude.{◌≡◌, ℕ, List, IsTrue, None};
+ghost use Rattle.std.specs.Prelude.{◌≡◌, ◌∷◌, [], ℕ, List, IsTrue, codes};
 ghost use Rattle.std.specs.List.{list_all};
 ghost use Rattle.tm_line_run.specs.Laws.{IsLineRun};
 ghost use Rattle.tm_line.specs.Advancing.{advances};
-ghost use Rattle.tm_line.specs.Example.{candidates, rule_at, text};
+ghost use Rattle.tm_line.specs.Example.{candidates, comment_from, example, in_comment, in_root, line, plain_from, rule_at, string_from, text};
 ghost use Rattle.tm_line.specs.Grammar.{rules_grammar};
 ghost use Rattle.tm_line.specs.Rules.{Rule};
 ghost use Rattle.tm_line.specs.Search.{Candidate, earliest_winner, searches_cost};
 ghost use Rattle.tm_line.specs.SearchLaws.{IsEarliest};
+ghost use Rattle.tm_line.specs.Tokenizing.{rules_cost, rules_tokenized};
 
 pub mod rules;
 mod run;
@@ -47,12 +49,22 @@ pub fn earliest_candidate()
     ensures { (text : List ℕ) (at : ℕ) (cs : List Candidate) → IsEarliest text at cs }
 {}
 
-/// The searches in the table at the head of this module, computed by the definitions.
+/// The first two turns of the table at the head of this module, computed by the definitions.
 pub fn worked_searches()
     ensures first { earliest_winner text 0 candidates ≡ rule_at 1 0 1 }
-    ensures later { earliest_winner text 1 candidates ≡ rule_at 2 2 4 }
-    ensures none { earliest_winner text 5 candidates ≡ None }
     ensures first_cost { searches_cost text 0 candidates ≡ 10 }
-    ensures later_cost { searches_cost text 1 candidates ≡ 11 }
-    ensures none_cost { searches_cost text 5 candidates ≡ 6 }
+    ensures next { earliest_winner text 1 candidates ≡ rule_at 2 2 4 }
+    ensures next_cost { searches_cost text 1 candidates ≡ 11 }
+{}
+
+/// Lines of the grammar at the head of this module, computed by the definitions: the line of the table,
+/// which leaves a comment open, and one behind it that closes it.
+pub fn worked_lines()
+    ensures opens { (rules_tokenized example [] line).tokens ≡
+        string_from 0 ∷ plain_from 1 ∷ comment_from 2 ∷ string_from 4 ∷ [] }
+    ensures opens_end { (rules_tokenized example [] line).end ≡ in_comment }
+    ensures cost { rules_cost example [] line ≡ 35 }
+    ensures closes { (rules_tokenized example in_comment (codes "4*/")).tokens ≡
+        string_from 0 ∷ comment_from 1 ∷ [] }
+    ensures closes_end { (rules_tokenized example in_comment (codes "4*/")).end ≡ in_root }
 {}

@@ -8,22 +8,14 @@ pub returns-clause-first : goal.returns-clause-first
 unfolding in_ranges in_range search_tree search_row last_group last_group_of first_of
 returns-clause-first c = refl
 
-pub returns-clause-later : goal.returns-clause-later
-unfolding in_ranges in_range search_tree search_row last_group last_group_of first_of
-returns-clause-later c = refl
-
-pub returns-clause-none : goal.returns-clause-none
-unfolding in_ranges in_range search_tree search_row last_group last_group_of first_of
-returns-clause-none c = refl
-
 pub returns-clause-first_cost : goal.returns-clause-first_cost
 unfolding in_ranges in_range search_tree search_row last_group last_group_of first_of
 returns-clause-first_cost c = refl
 
-pub returns-clause-later_cost : goal.returns-clause-later_cost
+pub returns-clause-next : goal.returns-clause-next
 unfolding in_ranges in_range search_tree search_row last_group last_group_of first_of
-returns-clause-later_cost c = refl
+returns-clause-next c = refl
 
-pub returns-clause-none_cost : goal.returns-clause-none_cost
+pub returns-clause-next_cost : goal.returns-clause-next_cost
 unfolding in_ranges in_range search_tree search_row last_group last_group_of first_of
-returns-clause-none_cost c = refl
+returns-clause-next_cost c = refl
