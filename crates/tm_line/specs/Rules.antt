@@ -4,11 +4,14 @@ use Rattle.tm_onig_class.specs.Tree.{Tree, tree_of}
 use Rattle.tm_line.specs.declared.rules.Rule as code
 use Rattle.tm_line.specs.declared.rules.Rule.TheVariants as variant
 
+-- a match rule, a begin/end rule and a list of rules, after vscode-textmate: the patterns, the name that
+-- is pushed, and the numbers of the rules inside
 pub data Rule : Type 0 where
   Match : Tree → Option (List ℕ) → Rule
   BeginEnd : Tree → Tree → Option (List ℕ) → List ℕ → Rule
   Only : List ℕ → Rule
 
+-- a rule of the code as plain data
 abbrev pub rule_data : code.Rule → Rule
 rule_data (variant.Match pattern name) = Match (tree_of pattern) name
 rule_data (variant.BeginEnd begin end name patterns) = BeginEnd (tree_of begin) (tree_of end) name patterns

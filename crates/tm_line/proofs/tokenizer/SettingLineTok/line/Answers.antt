@@ -12,6 +12,6 @@ returns-clause-cause g c =
     let start = state_at (g.S.States.tables c.args.table.now) c.args.start in
     let u = g.S.States.tables c.tokenized_line.new.table in
     let same : setting_of c.self.inside.scope (rules_data c.as_slice.result.now) ≡ setting_data c.args.self.now =
-        ap (λ rules. setting_of c.self.inside.scope (rules_data rules)) c.as_slice.ensures.value ∙ ap setting_data c.self.view_is in
+    ap (λ rules. setting_of c.self.inside.scope (rules_data rules)) c.as_slice.ensures.value ∙ ap setting_data c.self.view_is in
     let P : Setting → Type 0 = λ s. IfErr c.tokenized_line.result (IsLineCause c.args.budget (rules_cost s start c.args.line.now) (rules_made s start c.args.line.now) u) in
     subst P same c.tokenized_line.ensures.cause
