@@ -1,7 +1,8 @@
 //! One turn of a line, where a table holds the open rules by number.
 //!
-//! A turn searches the candidates of the open rule and does one of the four cases of the line relation: nothing is found, the open
-//! rule ends, a rule matches, a rule begins. Each case is a function here.
+//! A turn searches the candidates of the open rule and does one of the four cases of the line
+//! relation: nothing is found, the open rule ends, a rule matches, a rule begins. Each case is a
+//! function here.
 ghost use Rattle.std.specs.Prelude.{◌≡◌, ◌<◌, ◌≤◌, ◌++◌, ◌∷◌, ◌==◌, ◌^◌, [], length, IfOk, OnOk, IfErr, slice_get, Some, reverse, IsTrue};
 ghost use Rattle.std.specs.Option.{option_to_list};
 ghost use Rattle.tm_defs.specs.Tables.{GrowsWithin, IsFullForSome, path_at, state_at, more_made, only_state};
