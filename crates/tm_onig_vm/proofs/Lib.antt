@@ -6,3 +6,4 @@ pub mod Behind
 pub mod Tracked
 pub mod Sought
 pub mod Near
+pub mod Emitted

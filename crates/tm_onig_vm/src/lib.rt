@@ -4,6 +4,7 @@
 //! with the least start, taking from a budget what the search costs. `plain` is the search itself.
 #![tactic(auto)]
 
+pub mod code;
 mod copies;
 pub mod fault;
 mod goals;
