@@ -7,3 +7,5 @@ pub mod Tracked
 pub mod Sought
 pub mod Near
 pub mod Emitted
+pub mod Instructions
+pub mod Runs

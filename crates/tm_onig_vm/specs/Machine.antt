@@ -56,7 +56,7 @@ turn_of first least greatest greedy next count numbers pos caps =
 -- n starts from the lowest on, the last one first
 abbrev pub starts : ℕ → ℕ → List ℕ
 starts lowest zero = []
-starts lowest (suc n) = lowest + n ∷ starts lowest n
+starts lowest (suc n) = (lowest + n) ∷ starts lowest n
 
 -- the threads of a look-behind, the nearest start first, each with the position that it must come to
 abbrev pub behind_of : ℕ → ℕ → Option ℕ → ℕ → Caps → List Thread
@@ -136,3 +136,11 @@ module _ (s : Subject) where
   ActsFor code Succeeds pos caps o = o ≡ accept pos caps
   ActsFor code (Goes cost threads) pos caps o = (rest : Outcome) × AllMean code threads rest × (o ≡ spend cost rest)
   ActsFor code (Waits inner negative stays rest) pos caps o = WaitsFor code inner negative stays rest o
+
+-- what goes on after the body alone gave this, where the rest was waiting
+abbrev pub resumed_threads : Bool → Bool → Option Hit → Thread → List Thread
+resumed_threads true stays None rest = rest ∷ []
+resumed_threads true stays (Some h) rest = []
+resumed_threads false stays None rest = []
+resumed_threads false true (Some h) rest = at_pc rest.pc rest.numbers rest.pos h.caps ∷ []
+resumed_threads false false (Some h) rest = at_pc rest.pc rest.numbers h.end h.caps ∷ []
