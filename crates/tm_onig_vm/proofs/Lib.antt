@@ -9,3 +9,5 @@ pub mod Near
 pub mod Emitted
 pub mod Instructions
 pub mod Runs
+pub mod Stacked
+pub mod Running

@@ -29,7 +29,7 @@ or_else_cost a b = go a.hit
     go None = omega arith
     go (Some h) = omega arith
 
-module _ (s : Subject) (code : List Instr) (small : length s.line < 0x80000000) where
+module _ (s : Subject) (code : List Instr) where
   all_append : (xs ys : List Thread) (a b : Outcome) → AllMean s code xs a → AllMean s code ys b → AllMean s code (xs ++ ys) (or_else a b)
   all_append [] ys a b x y = subst (AllMean s code ys) (sym (or_else-fail_left b) ∙ ap (λ (o : Outcome). or_else o b) (sym x)) y
   all_append (t ∷ xs) ys a b x y =
@@ -72,7 +72,8 @@ module _ (s : Subject) (code : List Instr) (small : length s.line < 0x80000000) 
       let cost : n + 0 ≡ o.cost = ap (λ (x : Outcome). x.cost) whole in
       (sym (ap (λ (x : Outcome). x.hit) whole), omega arith)
 
-  module _ (o : Outcome) (n : ℕ) (t : Thread) (ts : List Thread) (was : Runs o n (t ∷ ts)) where
+module _ (s : Subject) (code : List Instr) (small : length s.line < 0x80000000) where
+  module _ (o : Outcome) (n : ℕ) (t : Thread) (ts : List Thread) (was : Runs s code o n (t ∷ ts)) where
     first : Outcome
     first = was.mean.0
 
@@ -101,12 +102,12 @@ module _ (s : Subject) (code : List Instr) (small : length s.line < 0x80000000) 
           subst (λ (d : Did). ActsFor s code d t.pos t.caps (frames_rest s means.0 t.numbers t.pos t.caps)) (ap (λ (j : Instr). exec s j t.numbers t.pos t.caps) same ∙ does) done.2 in
           subst (ActsFor s code did t.pos t.caps) (sym means.3) here
 
-      pub run_goes : (cost : ℕ) (new : List Thread) → exec s i t.numbers t.pos t.caps ≡ Goes cost new → Runs o (n + cost) (new ++ ts)
+      pub run_goes : (cost : ℕ) (new : List Thread) → exec s i t.numbers t.pos t.caps ≡ Goes cost new → Runs s code o (n + cost) (new ++ ts)
       run_goes cost new does =
           let act = acted (Goes cost new) does in
           record {
             rest = or_else act.0 was.mean.1;
-            mean = all_append new ts act.0 was.mean.1 act.1 was.mean.3;
+            mean = all_append s code new ts act.0 was.mean.1 act.1 was.mean.3;
             total =
                 sym (spend-spend n cost (or_else act.0 was.mean.1)) ∙ ap (spend n) (sym (or_else-spend cost act.0 was.mean.1))
                 ∙ ap (λ (x : Outcome). spend n (or_else x was.mean.1)) (sym act.2) ∙ whole_is;
@@ -122,13 +123,13 @@ module _ (s : Subject) (code : List Instr) (small : length s.line < 0x80000000) 
         pub waits : WaitsFor s code inner negative stays rest was.mean.0
         waits = acted (Waits inner negative stays rest) does
 
-        pub run_waited : Runs o (n + 1 + waits.alone.cost) (resumed_threads negative stays waits.alone.hit rest ++ ts)
+        pub run_waited : Runs s code o (n + 1 + waits.alone.cost) (resumed_threads negative stays waits.alone.hit rest ++ ts)
         run_waited =
             let w = waits in
-            let left = after_alone inner negative stays rest was.mean.0 w in
+            let left = after_alone s code inner negative stays rest was.mean.0 w in
             record {
               rest = or_else left.0 was.mean.1;
-              mean = all_append (resumed_threads negative stays w.alone.hit rest) ts left.0 was.mean.1 left.1 was.mean.3;
+              mean = all_append s code (resumed_threads negative stays w.alone.hit rest) ts left.0 was.mean.1 left.1 was.mean.3;
               total =
                   sym (spend-spend (n + 1) w.alone.cost (or_else left.0 was.mean.1)) ∙ sym (spend-spend n 1 (spend w.alone.cost (or_else left.0 was.mean.1)))
                   ∙ ap (λ (x : Outcome). spend n (spend 1 x)) (sym (or_else-spend w.alone.cost left.0 was.mean.1))

@@ -4,3 +4,4 @@ pub mod Goals
 pub mod Steps
 pub mod Code
 pub mod Machine
+pub mod Threads

@@ -8,6 +8,7 @@ pub mod code;
 mod copies;
 pub mod fault;
 mod goals;
+pub mod machine;
 mod places;
 mod plain;
 pub mod program;

@@ -154,7 +154,7 @@ fn begin_ending<'a>(
 }
 
 /// How far back the starts of a look-behind reach.
-fn reach(greatest: Option<u64>, pos: usize) -> usize
+pub(crate) fn reach(greatest: Option<u64>, pos: usize) -> usize
     ensures { result ≡ min pos (width_or greatest pos) }
 {
     match greatest {
