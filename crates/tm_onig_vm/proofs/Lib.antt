@@ -10,4 +10,4 @@ pub mod Emitted
 pub mod Instructions
 pub mod Runs
 pub mod Stacked
-pub mod Running
+pub mod Turns

@@ -12,6 +12,7 @@ pub mod machine;
 mod places;
 mod plain;
 pub mod program;
+mod running;
 #[cfg(test)]
 mod tests;
 mod widths;

@@ -434,7 +434,7 @@ fn behind_act(
 
 /// Carries out an instruction that tests the character or the place here.
 #[tactic(auto, unfolding(crate::specs::Machine::exec))]
-fn act(
+pub(crate) fn act(
     alloc: Global,
     line: &[char],
     anchors: Anchors,
@@ -544,7 +544,7 @@ fn act(
 }
 
 /// Goes on after the body was searched alone.
-fn resume(
+pub(crate) fn resume(
     threads: &mut Vec<Thread>,
     negative: bool,
     stays: bool,
@@ -582,7 +582,7 @@ fn resume(
     }
 }
 
-fn instr_at(code: &[Instr], pc: u32) -> Option<&Instr>
+pub(crate) fn instr_at(code: &[Instr], pc: u32) -> Option<&Instr>
     ensures { option_copied result ≡ slice_get code.now pc }
 {
     code.get(pc as usize)

@@ -1,2 +1,2 @@
-use Rattle.tm_onig_vm.proofs.Running.{after_waits}
+use Rattle.tm_onig_vm.proofs.Turns.{after_waits}
 use Rattle.tm_onig_vm.proofs.code.code_of.Goals as goal
