@@ -131,9 +131,18 @@ module _ (old code1 new : List Instr) (i : Instr) (pc next : ℕ) (grows : Grows
   pub behind_done : (t : Tree) (negative : Bool) (least : ℕ) (greatest : Option ℕ) (first last end : ℕ) → i ≡ I.Behind first negative least greatest next →
       least ≡ near (least_width t) → greatest ≡ option_map near (greatest_width t) → Code code1 t first last → slice_get code1 last ≡ Some (I.Arrive end) → slice_get code1 end ≡ Some I.Accept →
       Grows old new × BehindCode new t negative pc next
-  behind_done t negative least greatest first last end is least_is greatest_is body arrive accept =
-      (all_grows, (first, last, end, rw (is, least_is, greatest_is) at (at_push code1 new i pc pushed at), code_extends code1 new more t first last body,
-      grows_on last (I.Arrive end) arrive, grows_on end I.Accept accept))
+  behind_done t negative least greatest first last end is least_is greatest_is body arrive accept = (
+    all_grows,
+    (
+      first,
+      last,
+      end,
+      rw (is, least_is, greatest_is) at (at_push code1 new i pc pushed at),
+      code_extends code1 new more t first last body,
+      grows_on last (I.Arrive end) arrive,
+      grows_on end I.Accept accept,
+    ),
+  )
 
 -- a hole, the body, the hole filled, and the loop
 module _ (old code1 code2 code3 new : List Instr) (t : Tree) (least : ℕ) (greatest : Option ℕ) (greedy : Bool) (first last pc next : ℕ)

@@ -3,7 +3,7 @@ use Rattle.std.proofs.Common.{◌≡◌, ℕ, ◌+◌, ◌<◌, ◌≤◌, Bool,
 use Rattle.tm_onig_search.specs.Outcomes.{Caps}
 use Rattle.tm_onig_search.specs.Search.{width_or}
 use Rattle.tm_onig_vm.specs.Machine.{Thread as Plain, at_pc, starts, behind_of}
-use Rattle.tm_onig_vm.specs.declared.machine.Thread.{Thread}
+use Rattle.tm_onig_vm.specs.declared.thread.Thread.{Thread}
 use Rattle.tm_onig_vm.specs.Threads.{plain, plains}
 
 pub plains-push : (ts : List Thread) (t : Thread) → plains (ts ++ t ∷ []) ≡ plain t ∷ plains ts

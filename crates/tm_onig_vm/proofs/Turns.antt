@@ -1,17 +1,21 @@
 -- The run so far, over the machine's own threads.
 use Rattle.std.proofs.Common.{◌≡◌, ℕ, ◌+◌, ◌-◌, ◌<◌, ◌≤◌, List, [], ◌∷◌, ◌++◌, length, reverse, Option, Some, None, slice_get, refl, sym, ap, ◌∙◌, subst, arith}
 use Rattle.std.specs.Prelude.{option_map}
-use Rattle.tm_onig_search.specs.Outcomes.{Caps, Hit, Outcome, spend}
+use Rattle.tm_onig_search.specs.Outcomes.{Caps, Hit, Outcome, spend, fail, accept}
 use Rattle.tm_onig_search.specs.Places.{Subject}
 use Rattle.tm_onig_vm.specs.declared.code.Instr.{Instr}
 use Rattle.tm_onig_vm.specs.declared.goals.Found.{Found}
-use Rattle.tm_onig_vm.specs.declared.machine.Thread.{Thread}
+use Rattle.tm_onig_vm.specs.declared.thread.Thread.{Thread}
 use Rattle.tm_onig_vm.specs.declared.machine.Waiting.{Waiting}
 use Rattle.tm_onig_vm.specs.declared.machine.Acted.{Acted}
 use Rattle.tm_onig_vm.specs.declared.machine.Acted.TheVariants as A
 use Rattle.tm_onig_vm.specs.Steps.{hit_of}
-use Rattle.tm_onig_vm.specs.Machine.{Thread as Plain, Did, Succeeds, Goes, Waits, AllMean, exec, resumed_threads}
+use Rattle.tm_onig_vm.specs.Machine.{Thread as Plain, Did, Succeeds, Goes, Waits, Do, at_pc, AllMean, exec, resumed_threads}
 use Rattle.tm_onig_vm.specs.Threads.{plain, plains, Does, Acts}
+use Rattle.tm_onig_class.specs.Tree.{Tree}
+use Rattle.tm_onig_search.specs.Search.{search_tree}
+use Rattle.tm_onig_search.proofs.Outcomes.{or_else-fail_right}
+use Rattle.tm_onig_vm.specs.Code.{IsCodeOf}
 use Rattle.tm_onig_vm.proofs.Stacked.{pushed}
 use Rattle.tm_onig_vm.proofs.Runs as R
 use Rattle.tm_onig_vm.proofs.Runs.{Runs}
@@ -74,3 +78,9 @@ module _ (s : Subject) (code : List Instr) (small : length s.line < 0x80000000) 
               mean = rw done.0 wait.mean;
               on = rw (done.1, done.2, done.3, done.4) on;
             }
+
+-- the thread that a search of the whole tree begins with
+pub program_means : (s : Subject) (code : List Instr) (first : ℕ) (t : Tree) (start : ℕ) (caps : Caps) (threads : List Plain) → IsCodeOf code first t → start ≤ length s.line →
+    threads ≡ at_pc first [] start caps ∷ [] → AllMean s code threads (search_tree s t accept start caps)
+program_means s code first t start caps threads is fits begun =
+    let o = search_tree s t accept start caps in rw begun (o, fail, (Do t ∷ [], is, fits, refl), refl, sym (or_else-fail_right o))

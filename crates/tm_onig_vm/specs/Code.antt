@@ -3,6 +3,7 @@ use Rattle.std.specs.Prelude.{◌≡◌, ℕ, Bool, true, false, List, [], ◌�
 use Rattle.tm_onig_class.specs.Tree.{Tree, Empty, Char, Any, InSet, Cat, Alt, Group, Atomic, Repeat, Look, Back, Holds, Trees, NoTrees, More}
 use Rattle.tm_onig_class.specs.Widths.{least_width}
 use Rattle.tm_onig_search.specs.Widths.{greatest_width}
+use Rattle.tm_onig_search.specs.Find.{last_group}
 use Rattle.tm_onig_vm.specs.declared.code.Instr.{Instr}
 use Rattle.tm_onig_vm.specs.declared.code.Instr.TheVariants as I
 use Rattle.tm_onig_vm.specs.Near.{near}
@@ -62,3 +63,8 @@ Grows old new = (i : ℕ) (x : Instr) → slice_get old i ≡ Some x → slice_g
 -- the code of the whole tree begins at first, and ends with success
 abbrev pub IsCodeOf : List Instr → ℕ → Tree → Type 0
 IsCodeOf code first t = (last : ℕ) × Code code t first last × (slice_get code last ≡ Some I.Accept)
+
+-- the code is the tree's, and groups is the highest number of a group
+pub record IsProgramOf (code : List Instr) (first groups : ℕ) (t : Tree) : Type 0 where
+  pub code_is : IsCodeOf code first t
+  pub groups_is : groups ≡ last_group t

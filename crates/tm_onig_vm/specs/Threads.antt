@@ -4,7 +4,7 @@ use Rattle.tm_onig_search.specs.Outcomes.{Hit}
 use Rattle.tm_onig_search.specs.Places.{Subject}
 use Rattle.tm_onig_vm.specs.declared.code.Instr.{Instr}
 use Rattle.tm_onig_vm.specs.declared.goals.Found.{Found}
-use Rattle.tm_onig_vm.specs.declared.machine.Thread.{Thread}
+use Rattle.tm_onig_vm.specs.declared.thread.Thread.{Thread}
 use Rattle.tm_onig_vm.specs.declared.machine.Waiting.{Waiting}
 use Rattle.tm_onig_vm.specs.declared.machine.Acted.{Acted}
 use Rattle.tm_onig_vm.specs.declared.machine.Acted.TheVariants as A

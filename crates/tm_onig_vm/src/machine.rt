@@ -1,8 +1,7 @@
-//! The machine that carries out code: a stack of threads, of which the top one goes on.
+//! What the machine does at one instruction.
 //!
-//! A thread is one way that the search may still go: a place in the code, the numbers of the groups and
-//! loops that are open, a position and the groups set so far. A choice copies a thread; where there is
-//! no choice nothing is copied and no memory is taken.
+//! Each function carries out one kind of instruction for the thread that was on top, and says so in the
+//! words of `specs/Machine.antt`.
 ghost use Rattle.std.specs.Prelude.{◌≡◌, ℕ, ◌-◌, ◌+◌, ◌^◌, ◌<◌, ◌≤◌, ◌==◌, Option, List, [], ◌∷◌, ◌++◌, length, map, reverse, slice_get, slice_set, option_map, min, nat_lt, Some, OnOk, IfOk, IsErrOf, if◌then◌else◌};
 ghost use Rattle.std.specs.Option.{option_copied};
 ghost use Rattle.tm_onig_search.specs.Outcomes.{Outcome};
@@ -15,22 +14,12 @@ ghost use Rattle.tm_onig_vm.specs.Threads.{plain, plains, Does, Acts};
 
 use crate::code::Instr;
 use crate::fault::FindFault;
-use crate::goals::{Found, last_set, reaches, set_group};
+use crate::goals::{Found, last_set, set_group};
 use crate::places::{Anchors, has_any, has_char, has_member, is_at_place, stands_at, text_of};
-use crate::plain::reach;
+use crate::thread::{Thread, ahead_threads, behind_threads, go, go_to_each, turn};
 use smallvec::SmallVec;
 use std::alloc::Global;
 use tm_defs::memory::OutOfMemory;
-
-/// One way that the search may still go.
-#[derive(Drop)]
-pub struct Thread {
-    pub pc: u32,
-    /// Starts of groups and rounds, counts of loops, and ends of looks. The last is the top.
-    pub numbers: Vec<u32>,
-    pub pos: usize,
-    pub caps: SmallVec<Option<(u32, u32)>, 8>,
-}
 
 /// A body that is to be searched alone, and the thread that goes on after it.
 #[derive(Drop)]
@@ -48,96 +37,6 @@ pub enum Acted {
     /// So many cases were entered.
     Costs(u64),
     Waits(Waiting),
-}
-
-fn go(
-    threads: &mut Vec<Thread>,
-    pc: u32,
-    numbers: Vec<u32>,
-    pos: usize,
-    caps: SmallVec<Option<(u32, u32)>, 8>,
-) -> Result<(), OutOfMemory>
-    ensures { OnOk result (plains threads.new.items ≡ at_pc pc (reverse numbers.items) pos caps.items ∷ plains threads.old.items) }
-{
-    threads.push(Thread {
-        pc,
-        numbers,
-        pos,
-        caps,
-    })?;
-    Ok(())
-}
-
-fn go_to_each(
-    alloc: Global,
-    threads: &mut Vec<Thread>,
-    targets: &[u32],
-    numbers: &[u32],
-    pos: usize,
-    caps: &[Option<(u32, u32)>],
-) -> Result<(), OutOfMemory>
-    ensures { OnOk result (plains threads.new.items ≡ map (λ p. at_pc p (reverse numbers.now) pos caps.now) targets.now ++ plains threads.old.items) }
-{
-    for i in (0..targets.len()).rev() {
-        let own_numbers = Vec::from_slice(alloc, numbers)?;
-        let own_caps = SmallVec::from_slice(alloc, caps)?;
-        go(threads, targets[i], own_numbers, pos, own_caps)?;
-    }
-    Ok(())
-}
-
-/// Begins a round after `count` others.
-fn go_round(
-    threads: &mut Vec<Thread>,
-    first: u32,
-    count: u32,
-    mut numbers: Vec<u32>,
-    pos: usize,
-    caps: SmallVec<Option<(u32, u32)>, 8>,
-) -> Result<(), OutOfMemory>
-    requires { pos < 2 ^ 31 }
-    ensures { OnOk result (plains threads.new.items ≡ at_pc first (pos ∷ (count + 1) ∷ reverse numbers.items) pos caps.items ∷ plains threads.old.items) }
-{
-    let Some(count) = count.checked_add(1) else {
-        return Err(OutOfMemory);
-    };
-    numbers.push(count)?;
-    numbers.push(pos as u32)?;
-    go(threads, first, numbers, pos, caps)
-}
-
-/// A loop that has made `count` rounds.
-fn turn(
-    alloc: Global,
-    threads: &mut Vec<Thread>,
-    first: u32,
-    least: u32,
-    greatest: Option<u32>,
-    greedy: bool,
-    next: u32,
-    count: u32,
-    numbers: Vec<u32>,
-    pos: usize,
-    caps: SmallVec<Option<(u32, u32)>, 8>,
-) -> Result<(), OutOfMemory>
-    requires { pos < 2 ^ 31 }
-    ensures { OnOk result (plains threads.new.items ≡ turn_of first least greatest greedy next count (reverse numbers.items) pos caps.items ++ plains threads.old.items) }
-{
-    if count < least {
-        return go_round(threads, first, count, numbers, pos, caps);
-    }
-    if reaches(count, greatest) {
-        return go(threads, next, numbers, pos, caps);
-    }
-    let other_numbers = Vec::from_slice(alloc, &numbers)?;
-    let other_caps = SmallVec::from_slice(alloc, caps.as_slice())?;
-    if greedy {
-        go(threads, next, other_numbers, pos, other_caps)?;
-        go_round(threads, first, count, numbers, pos, caps)
-    } else {
-        go_round(threads, first, count, other_numbers, pos, other_caps)?;
-        go(threads, next, numbers, pos, caps)
-    }
 }
 
 /// Goes on where the test holds.
@@ -270,7 +169,10 @@ fn choice_act(
     let _ = line;
     let _ = anchors;
     let Thread {
-        numbers, pos, caps, ..
+        numbers,
+        pos,
+        caps,
+        ..
     } = thread;
     go_to_each(alloc, threads, targets, &numbers, pos, caps.as_slice())?;
     Ok(Acted::Costs(1))
@@ -304,62 +206,6 @@ fn arrive_act(
     Ok(Acted::Costs(1))
 }
 
-/// The thread that a search of a body alone begins with.
-fn ahead_threads(
-    alloc: Global,
-    body: u32,
-    pos: usize,
-    caps: SmallVec<Option<(u32, u32)>, 8>,
-) -> Result<Vec<Thread>, OutOfMemory>
-    ensures { IfOk result (λ threads. plains threads.items ≡ at_pc body [] pos caps.items ∷ []) }
-{
-    let mut threads = Vec::new(alloc);
-    let numbers = Vec::new(alloc);
-    go(&mut threads, body, numbers, pos, caps)?;
-    Ok(threads)
-}
-
-fn go_to_start(
-    alloc: Global,
-    threads: &mut Vec<Thread>,
-    body: u32,
-    end: usize,
-    start: usize,
-    caps: &[Option<(u32, u32)>],
-) -> Result<(), OutOfMemory>
-    requires { end < 2 ^ 31 }
-    ensures { OnOk result (plains threads.new.items ≡ at_pc body (end ∷ []) start caps.now ∷ plains threads.old.items) }
-{
-    let mut numbers = Vec::new(alloc);
-    numbers.push(end as u32)?;
-    let own = SmallVec::from_slice(alloc, caps)?;
-    go(threads, body, numbers, start, own)
-}
-
-/// The threads of a look-behind, the nearest start on top.
-fn behind_threads(
-    alloc: Global,
-    body: u32,
-    least: u64,
-    greatest: Option<u64>,
-    pos: usize,
-    caps: &[Option<(u32, u32)>],
-) -> Result<Vec<Thread>, OutOfMemory>
-    requires { pos < 2 ^ 31 }
-    ensures { IfOk result (λ threads. plains threads.items ≡ behind_of body least greatest pos caps.now) }
-{
-    let mut threads = Vec::new(alloc);
-    let least = least as usize;
-    let far = reach(greatest, pos);
-    if far < least {
-        return Ok(threads);
-    }
-    for start in pos - far..pos - least + 1 {
-        go_to_start(alloc, &mut threads, body, pos, start, caps)?;
-    }
-    Ok(threads)
-}
-
 #[tactic(auto, unfolding(crate::specs::Machine::exec))]
 fn ahead_act(
     alloc: Global,
@@ -378,7 +224,10 @@ fn ahead_act(
     let _ = anchors;
     let _ = threads;
     let Thread {
-        numbers, pos, caps, ..
+        numbers,
+        pos,
+        caps,
+        ..
     } = thread;
     let own = SmallVec::from_slice(alloc, caps.as_slice())?;
     let inner = ahead_threads(alloc, body, pos, own)?;
@@ -416,7 +265,10 @@ fn behind_act(
     let _ = anchors;
     let _ = threads;
     let Thread {
-        numbers, pos, caps, ..
+        numbers,
+        pos,
+        caps,
+        ..
     } = thread;
     let inner = behind_threads(alloc, body, least, greatest, pos, caps.as_slice())?;
     Ok(Acted::Waits(Waiting {
@@ -432,7 +284,7 @@ fn behind_act(
     }))
 }
 
-/// Carries out an instruction that tests the character or the place here.
+/// Carries out the instruction.
 #[tactic(auto, unfolding(crate::specs::Machine::exec))]
 pub(crate) fn act(
     alloc: Global,
@@ -469,7 +321,10 @@ pub(crate) fn act(
         }
         Instr::Step { next } => {
             let Thread {
-                numbers, pos, caps, ..
+                numbers,
+                pos,
+                caps,
+                ..
             } = thread;
             go(threads, *next, numbers, pos, caps)?;
             Ok(Acted::Costs(1))
@@ -497,7 +352,10 @@ pub(crate) fn act(
             next,
         } => {
             let Thread {
-                numbers, pos, caps, ..
+                numbers,
+                pos,
+                caps,
+                ..
             } = thread;
             turn(
                 alloc, threads, *body, *least, *greatest, *greedy, *next, 0, numbers, pos, caps,
@@ -540,45 +398,6 @@ pub(crate) fn act(
             alloc, line, anchors, *body, *negative, *least, *greatest, *next, thread, threads,
         ),
         Instr::Arrive { next } => arrive_act(line, anchors, *next, thread, threads),
-    }
-}
-
-/// Goes on after the body was searched alone.
-pub(crate) fn resume(
-    threads: &mut Vec<Thread>,
-    negative: bool,
-    stays: bool,
-    rest: Thread,
-    found: Option<Found>,
-) -> Result<(), OutOfMemory>
-    ensures { OnOk result (plains threads.new.items ≡ resumed_threads negative stays (option_map hit_of found) (plain rest) ++ plains threads.old.items) }
-{
-    let Thread {
-        pc,
-        numbers,
-        pos,
-        caps,
-    } = rest;
-    match found {
-        None => {
-            if negative {
-                return go(threads, pc, numbers, pos, caps);
-            }
-            Ok(())
-        }
-        Some(found) => {
-            if negative {
-                return Ok(());
-            }
-            let Found {
-                end,
-                caps: found_caps,
-            } = found;
-            if stays {
-                return go(threads, pc, numbers, pos, found_caps);
-            }
-            go(threads, pc, numbers, end, found_caps)
-        }
     }
 }
 

@@ -9,8 +9,9 @@ ghost use Rattle.tm_onig_vm.specs.Threads.{plains};
 use crate::code::Instr;
 use crate::fault::FindFault;
 use crate::goals::Found;
-use crate::machine::{Acted, Thread, Waiting, act, instr_at, resume};
+use crate::machine::{Acted, Waiting, act, instr_at};
 use crate::places::Anchors;
+use crate::thread::{Thread, resume};
 use std::alloc::Global;
 
 /// The first success of the threads. Each case that is entered takes one from the budget.

@@ -1,7 +1,7 @@
 use Rattle.std.proofs.Common.{◌≡◌, ◌-◌, ◌+◌, [], ◌∷◌, arith}
 use Rattle.tm_onig_vm.specs.Machine.{at_pc}
 use Rattle.tm_onig_vm.proofs.Stacked.{starts_none, starts_more, behind_none, behind_some}
-use Rattle.tm_onig_vm.proofs.machine.behind_threads.Goals as goal
+use Rattle.tm_onig_vm.proofs.thread.behind_threads.Goals as goal
 
 pub returns-then-far-least : goal.returns-then-far-least
 returns-then-far-least c =
