@@ -21,8 +21,8 @@ use Rattle.tm_onig_vm.specs.Near.{near}
 use Rattle.tm_onig_vm.specs.Steps.{resumed}
 use Rattle.tm_onig_vm.proofs.Alone.{at_ends}
 use Rattle.tm_onig_vm.proofs.Behind.{tried, back_some, back_none}
-use Rattle.tm_onig_vm.specs.Code.{Code, AheadCode, BehindCode, RowCode, AnyCode}
-use Rattle.tm_onig_vm.specs.Machine.{Frame, Do, CloseOf, AgainOf, ArriveOf, Thread, at_pc, Did, Succeeds, Goes, Waits, Stands, turn_of, starts, behind_of, goes_if, read_of, exec, frames_rest, Means, AllMean, WaitsFor, ActsFor}
+use Rattle.tm_onig_vm.specs.Code.{Code, RowCode, AnyCode}
+use Rattle.tm_onig_vm.specs.Machine.{Frame, Do, CloseOf, AgainOf, ArriveOf, Thread, at_pc, Goes, Stands, turn_of, starts, behind_of, goes_if, read_of, exec, frames_rest, Means, AllMean, WaitsFor, ActsFor}
 
 spend_one : (o : Outcome) → tick o ≡ spend 1 o
 spend_one o = ap (λ (c : ℕ). let r : Outcome = record { hit = o.hit; cost = c } in r) (omega arith)

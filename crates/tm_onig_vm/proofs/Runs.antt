@@ -1,12 +1,12 @@
 -- A run of the code keeps what is left of the search.
-use Rattle.std.proofs.Common.{◌≡◌, ℕ, suc, ◌+◌, ◌<◌, ◌≤◌, Bool, true, false, List, [], ◌∷◌, ◌++◌, length, Option, Some, None, slice_get, refl, sym, ap, ◌∙◌, subst, arith}
+use Rattle.std.proofs.Common.{◌≡◌, ℕ, ◌+◌, ◌<◌, ◌≤◌, Bool, true, false, List, [], ◌∷◌, ◌++◌, length, Option, Some, None, slice_get, refl, sym, ap, ◌∙◌, subst, arith}
 use Rattle.std.proofs.lemmas.Option.{none-some}
-use Rattle.tm_onig_search.specs.Outcomes.{Caps, Hit, Outcome, Rest, fail, tick, spend, or_else, or_else_at, accept, and_then, then_at, unless, if_none}
+use Rattle.tm_onig_search.specs.Outcomes.{Caps, Hit, Outcome, fail, tick, spend, or_else, or_else_at, accept}
 use Rattle.tm_onig_search.specs.Places.{Subject}
 use Rattle.tm_onig_search.proofs.Outcomes.{or_else_assoc, or_else-fail_left, or_else-fail_right, spend-spend}
 use Rattle.tm_onig_vm.specs.declared.code.Instr.{Instr}
 use Rattle.tm_onig_vm.specs.Steps.{resumed}
-use Rattle.tm_onig_vm.specs.Machine.{Thread, Did, Succeeds, Goes, Waits, at_pc, exec, frames_rest, Means, AllMean, WaitsFor, ActsFor, resumed_threads}
+use Rattle.tm_onig_vm.specs.Machine.{Thread, Did, Succeeds, Goes, Waits, at_pc, exec, frames_rest, AllMean, WaitsFor, ActsFor, resumed_threads}
 use Rattle.tm_onig_vm.proofs.Instructions.{step}
 
 or_else-spend : (n : ℕ) (a b : Outcome) → or_else (spend n a) b ≡ spend n (or_else a b)

@@ -1,5 +1,5 @@
 -- What a thread on top leaves.
-use Rattle.std.proofs.Common.{◌≡◌, ℕ, ◌+◌, ◌<◌, ◌≤◌, Bool, true, false, List, [], ◌∷◌, ◌++◌, Option, refl, ap, ◌∙◌, reverse, ◌-◌, suc, min, map, sym, ap₂, lt-ltb, le-ltb, arith}
+use Rattle.std.proofs.Common.{◌≡◌, ℕ, ◌+◌, ◌<◌, ◌≤◌, List, [], ◌∷◌, ◌++◌, Option, refl, ap, ◌∙◌, reverse, ◌-◌, suc, min, map, ap₂, lt-ltb, le-ltb, arith}
 use Rattle.tm_onig_search.specs.Outcomes.{Caps}
 use Rattle.tm_onig_search.specs.Search.{width_or}
 use Rattle.tm_onig_vm.specs.Machine.{Thread as Plain, at_pc, starts, behind_of}

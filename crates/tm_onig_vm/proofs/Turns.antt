@@ -1,13 +1,11 @@
 -- The run so far, over the machine's own threads.
-use Rattle.std.proofs.Common.{◌≡◌, ℕ, ◌+◌, ◌-◌, ◌<◌, ◌≤◌, List, [], ◌∷◌, ◌++◌, length, reverse, Option, Some, None, slice_get, refl, sym, ap, ◌∙◌, subst, arith}
-use Rattle.std.specs.Prelude.{option_map}
-use Rattle.tm_onig_search.specs.Outcomes.{Caps, Hit, Outcome, spend, fail, accept}
+use Rattle.std.proofs.Common.{◌≡◌, ℕ, ◌+◌, ◌<◌, ◌≤◌, List, [], ◌∷◌, ◌++◌, length, reverse, Some, None, slice_get, refl, sym, ap, ◌∙◌, arith}
+use Rattle.tm_onig_search.specs.Outcomes.{Caps, Outcome, fail, accept}
 use Rattle.tm_onig_search.specs.Places.{Subject}
 use Rattle.tm_onig_vm.specs.declared.code.Instr.{Instr}
 use Rattle.tm_onig_vm.specs.declared.goals.Found.{Found}
 use Rattle.tm_onig_vm.specs.declared.thread.Thread.{Thread}
 use Rattle.tm_onig_vm.specs.declared.machine.Waiting.{Waiting}
-use Rattle.tm_onig_vm.specs.declared.machine.Acted.{Acted}
 use Rattle.tm_onig_vm.specs.declared.machine.Acted.TheVariants as A
 use Rattle.tm_onig_vm.specs.Steps.{hit_of}
 use Rattle.tm_onig_vm.specs.Machine.{Thread as Plain, Did, Succeeds, Goes, Waits, Do, at_pc, AllMean, exec, resumed_threads}

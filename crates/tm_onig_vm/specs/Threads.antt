@@ -1,11 +1,9 @@
 -- The machine's threads as the plain ones.
-use Rattle.std.specs.Prelude.{◌≡◌, ℕ, ◌<◌, ◌==◌, Bool, List, [], ◌∷◌, ◌++◌, reverse, Option, Some, None}
+use Rattle.std.specs.Prelude.{◌≡◌, ◌<◌, List, [], ◌∷◌, ◌++◌, reverse}
 use Rattle.tm_onig_search.specs.Outcomes.{Hit}
 use Rattle.tm_onig_search.specs.Places.{Subject}
 use Rattle.tm_onig_vm.specs.declared.code.Instr.{Instr}
-use Rattle.tm_onig_vm.specs.declared.goals.Found.{Found}
 use Rattle.tm_onig_vm.specs.declared.thread.Thread.{Thread}
-use Rattle.tm_onig_vm.specs.declared.machine.Waiting.{Waiting}
 use Rattle.tm_onig_vm.specs.declared.machine.Acted.{Acted}
 use Rattle.tm_onig_vm.specs.declared.machine.Acted.TheVariants as A
 use Rattle.tm_onig_vm.specs.Machine.{Thread as Plain, Did, Succeeds, Goes, Waits, at_pc, exec}

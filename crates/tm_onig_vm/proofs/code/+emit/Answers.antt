@@ -1,4 +1,4 @@
-use Rattle.std.proofs.Common.{◌≡◌, ◌∷◌, [], ◌++◌, length, map, refl, sym, ap, ◌∙◌, arith}
+use Rattle.std.proofs.Common.{◌≡◌, ◌∷◌, [], ◌++◌, length, map, refl, ap, ◌∙◌, arith}
 use Rattle.std.proofs.lemmas.Result.{IfOk-weaker}
 use Rattle.tm_onig_class.specs.Tree.{Empty, Char, Any, InSet, Back, Holds, tree_of, trees}
 use Rattle.tm_onig_class.proofs.Trees.{tree_of-Empty, tree_of-Char, tree_of-Cat, tree_of-Any, tree_of-Set, tree_of-Atomic, tree_of-Look, tree_of-Back, tree_of-Position, tree_of-Alt, tree_of-Group, tree_of-Repeat}

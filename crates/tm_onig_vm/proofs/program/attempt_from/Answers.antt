@@ -1,4 +1,4 @@
-use Rattle.std.proofs.Common.{◌≡◌, ℕ, ◌+◌, replicate, None, sym, ap, ◌∙◌}
+use Rattle.std.proofs.Common.{ℕ, ◌+◌, replicate, None, ap, ◌∙◌}
 use Rattle.tm_onig_class.specs.Tree.{tree_of}
 use Rattle.tm_onig_search.specs.Find.{at_start}
 use Rattle.tm_onig_vm.specs.Anchors.{subject_of}
