@@ -12,7 +12,7 @@ use Rattle.tm_onig_search.proofs.Within.{behind_hit}
 use Rattle.tm_onig_vm.specs.declared.plain.Alone.{Alone}
 use Rattle.tm_onig_vm.specs.Steps.{alone_outcome}
 
-at_ends : (s : Subject) (q start : ℕ) → EndsFrom s start (at_goal q accept) start
+pub at_ends : (s : Subject) (q start : ℕ) → EndsFrom s start (at_goal q accept) start
 at_ends s q start at cs h low high e = ⊎_elim (accept_ends s start at cs h low high) (λ f. absurd (fail_hit h f)) (cond_hit (at == q) (accept at cs) fail h e)
 
 pub alone_within : (s : Subject) (alone : Alone) (pos : ℕ) (caps : Caps) → pos ≤ length s.line → (h : Hit) → (alone_outcome s alone pos caps).hit ≡ Some h → h.end ≤ length s.line

@@ -6,3 +6,8 @@ pub mod Behind
 pub mod Tracked
 pub mod Sought
 pub mod Near
+pub mod Emitted
+pub mod Instructions
+pub mod Runs
+pub mod Stacked
+pub mod Turns

@@ -2,3 +2,6 @@ pub mod Anchors
 pub mod Near
 pub mod Goals
 pub mod Steps
+pub mod Code
+pub mod Machine
+pub mod Threads

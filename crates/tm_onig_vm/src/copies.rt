@@ -8,7 +8,7 @@ use tm_defs::memory::OutOfMemory;
 use tm_onig_class::patterns::Pattern;
 use tm_onig_class::sets::Set;
 
-fn copy_set(set: &Set) -> Result<Set, OutOfMemory>
+pub(crate) fn copy_set(set: &Set) -> Result<Set, OutOfMemory>
     ensures { IfOk result (λ copy. copy ≡ set.now) }
 {
     let copy = set.union(set)?;
@@ -16,7 +16,7 @@ fn copy_set(set: &Set) -> Result<Set, OutOfMemory>
     Ok(copy)
 }
 
-fn copy_groups(alloc: Global, groups: &[u32]) -> Result<Items<u32>, OutOfMemory>
+pub(crate) fn copy_groups(alloc: Global, groups: &[u32]) -> Result<Items<u32>, OutOfMemory>
     ensures { IfOk result (λ copy. copy ≡ groups.now) }
 {
     Ok(Items::from_vec(Vec::from_slice(alloc, groups)?))

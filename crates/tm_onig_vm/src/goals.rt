@@ -159,7 +159,7 @@ fn push_round<'a>(
     go_on(branches, goals, pos, caps)
 }
 
-fn reaches(count: u32, greatest: Option<u32>) -> bool
+pub(crate) fn reaches(count: u32, greatest: Option<u32>) -> bool
     ensures { result ≡ is_at count greatest }
 {
     match greatest {
@@ -226,7 +226,7 @@ fn group_at(caps: &[Option<(u32, u32)>], number: u32) -> Option<(u32, u32)>
 }
 
 /// The last of the groups that is set.
-fn last_set(caps: &[Option<(u32, u32)>], groups: &[u32]) -> Option<(u32, u32)>
+pub(crate) fn last_set(caps: &[Option<(u32, u32)>], groups: &[u32]) -> Option<(u32, u32)>
     ensures { result ≡ last_set caps.now groups.now }
 {
     let mut found = None;

@@ -154,7 +154,7 @@ fn begin_ending<'a>(
 }
 
 /// How far back the starts of a look-behind reach.
-fn reach(greatest: Option<u64>, pos: usize) -> usize
+pub(crate) fn reach(greatest: Option<u64>, pos: usize) -> usize
     ensures { result ≡ min pos (width_or greatest pos) }
 {
     match greatest {
@@ -275,7 +275,10 @@ fn resume<'a>(
 }
 
 /// No group is set.
-fn blank_caps(alloc: Global, groups: usize) -> Result<SmallVec<Option<(u32, u32)>, 8>, OutOfMemory>
+pub(crate) fn blank_caps(
+    alloc: Global,
+    groups: usize,
+) -> Result<SmallVec<Option<(u32, u32)>, 8>, OutOfMemory>
     ensures { IfOk result (λ caps. caps.items ≡ replicate groups None) }
 {
     let mut caps = SmallVec::new(alloc);
@@ -286,7 +289,7 @@ fn blank_caps(alloc: Global, groups: usize) -> Result<SmallVec<Option<(u32, u32)
 }
 
 /// The groups of a match, the whole match first.
-fn with_whole(found: Found, start: usize) -> Caps
+pub(crate) fn with_whole(found: Found, start: usize) -> Caps
     requires small { (start < 2 ^ 31) × (found.end < 2 ^ 31) }
     ensures { result ≡ with_whole start (hit_of found) }
 {

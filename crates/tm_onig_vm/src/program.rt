@@ -1,14 +1,22 @@
 //! Programs: what a pattern becomes before it is searched for, again and again.
 //!
-//! Contracts see a program as a pattern, of which they cite the tree. For now a program keeps that tree and
-//! `find` is the plain search; both contracts are the whole ones.
-ghost use Rattle.std.specs.Prelude.{◌≡◌, ℕ, ◌+◌, ◌^◌, ◌<◌, ◌≤◌, length, OnOk, IfOk, IsErrOf};
+//! Contracts see a program as a pattern, of which they cite the tree. Beside it a program keeps the code
+//! that the machine carries out.
+ghost use Rattle.std.specs.Prelude.{◌≡◌, ℕ, ◌+◌, ◌^◌, ◌<◌, ◌≤◌, length, option_map, OnOk, IfOk, IsErrOf};
 ghost use Rattle.tm_onig_class.specs.Tree.{tree_of};
-ghost use Rattle.tm_onig_search.specs.Find.{first_match, search_cost};
+ghost use Rattle.tm_onig_search.specs.Find.{at_start, first_match, search_cost};
+ghost use Rattle.tm_onig_vm.specs.Anchors.{subject_of};
+ghost use Rattle.tm_onig_vm.specs.Steps.{hit_of};
 
+use crate::code::{Instr, code_of};
 use crate::copies::copy;
 use crate::fault::FindFault;
-use crate::plain::find_plainly;
+use crate::goals::Found;
+use crate::places::Anchors;
+use crate::plain::{blank_caps, with_whole};
+use crate::running::run;
+use crate::thread::ahead_threads;
+use crate::widths::last_group;
 use std::alloc::Global;
 use std::marker::Model;
 use tm_defs::caps::Caps;
@@ -20,27 +28,61 @@ use tm_onig_class::patterns::Pattern;
 #[derive(Drop)]
 pub struct Prog {
     pattern: Pattern,
+    code: Vec<Instr>,
+    first: u32,
+    groups: u32,
 }
 
 impl Model for Prog {
     ghost use Rattle.std.specs.Coded.{codes};
+    ghost use Rattle.tm_onig_class.specs.Tree.{tree_of};
     ghost use Rattle.tm_onig_class.specs.declared.patterns.Pattern.{Pattern};
     ghost use Rattle.tm_onig_class.specs.contracts.patterns.Pattern as e;
+    ghost use Rattle.tm_onig_vm.specs.Code.{IsProgramOf};
 
     ghost Value = { Pattern };
 
     ghost coded = { Prim.hlevel (codes, e.the_row.coded) };
 
     ghost view = { λ prog. prog.pattern };
+
+    ghost invariant = { λ prog. IsProgramOf prog.code.items prog.first prog.groups (tree_of prog.pattern) };
 }
 
 /// A program for the pattern.
 pub fn compile(alloc: Global, pattern: &Pattern) -> Result<Prog, OutOfMemory>
     ensures { IfOk result (λ prog. tree_of prog ≡ tree_of pattern.now) }
 {
+    let (code, first) = code_of(alloc, pattern)?;
+    let groups = last_group(pattern);
+    let own = copy(alloc, pattern)?;
     Ok(Prog {
-        pattern: copy(alloc, pattern)?,
+        pattern: own,
+        code,
+        first,
+        groups,
     })
+}
+
+/// The first success of the program at one start.
+fn attempt_from(
+    alloc: Global,
+    line: &[char],
+    anchors: Anchors,
+    prog: &Prog,
+    start: usize,
+    budget: &mut u64,
+) -> Result<Option<Found>, FindFault>
+    requires small { length line.now < 2 ^ 31 }
+    requires within { start ≤ length line.now }
+    ensures hit { IfOk result (λ found. option_map hit_of found ≡ (at_start (subject_of line.now anchors) (tree_of prog.now) start).hit) }
+    ensures cost { OnOk result (budget.new + (at_start (subject_of line.now anchors) (tree_of prog.now) start).cost ≡ budget.old) }
+    ensures over { IsErrOf result FindFault.Budget → budget.old < (at_start (subject_of line.now anchors) (tree_of prog.now) start).cost }
+    ensures falls { (budget.new ≤ budget.old) × (budget.old ≤ budget.new + (at_start (subject_of line.now anchors) (tree_of prog.now) start).cost) }
+{
+    let blank = blank_caps(alloc, prog.groups as usize + 1)?;
+    let threads = ahead_threads(alloc, prog.first, start, blank)?;
+    run(alloc, line, anchors, &prog.code, threads, budget)
 }
 
 /// The groups of the match with the least start from `from` on, the whole match first, or none where
@@ -64,7 +106,21 @@ pub fn find(
     ensures over { IsErrOf result FindFault.Budget → budget.old < search_cost (tree_of prog.now) line.now from allow_a allow_g }
     ensures falls { (budget.new ≤ budget.old) × (budget.old ≤ budget.new + search_cost (tree_of prog.now) line.now from allow_a allow_g) }
 {
-    find_plainly(alloc, &prog.pattern, line, from, allow_a, allow_g, budget)
+    let chars = line.as_slice();
+    let from = from as usize;
+    let anchors = Anchors {
+        first: from,
+        allow_a,
+        allow_g,
+    };
+    'starts: for start in from..chars.len() + 1 {
+        match attempt_from(alloc, chars, anchors, prog, start, budget) {
+            Ok(None) => {}
+            Ok(Some(found)) => return Ok(Some(with_whole(found, start))),
+            Err(fault) => return Err(fault),
+        }
+    }
+    Ok(None)
 }
 
 fn crosses<T: Send + Sync>(value: &T) {

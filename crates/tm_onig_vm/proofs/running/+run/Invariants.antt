@@ -1,0 +1,19 @@
+use Rattle.std.proofs.Common.{◌-◌, ◌≤◌}
+use Rattle.tm_onig_search.specs.Outcomes.{Outcome}
+use Rattle.tm_onig_vm.specs.Anchors.{subject_of}
+use Rattle.tm_onig_vm.specs.Machine.{AllMean}
+use Rattle.tm_onig_vm.specs.Threads.{plains}
+use Rattle.tm_onig_vm.proofs.Runs.{Runs}
+use Rattle.tm_onig_vm.proofs.running.+run.Given as goal
+
+abbrev pub decreases-run : goal.decreases-run
+decreases-run l = l.budget.now
+
+abbrev pub invariant-steps : goal.invariant-steps
+invariant-steps l = record {
+  runs : (o : Outcome) → AllMean (subject_of l.line l.anchors) l.code (plains l.fn.threads.items) o → Runs (subject_of l.line l.anchors) l.code o (l.fn.budget - l.budget) (plains l.threads.items);
+  falls : l.budget ≤ l.fn.budget;
+}
+
+abbrev pub decreases-steps : goal.decreases-steps
+decreases-steps l = l.budget

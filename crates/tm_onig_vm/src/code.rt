@@ -1,0 +1,340 @@
+//! The code of a pattern: one instruction for each case of the search.
+//!
+//! An instruction names the place where the search goes on, so that a place in the code stands for the
+//! list of goals that are left. The starts of groups and the counts of loops, which goals carry, lie on
+//! a stack of numbers beside it. For `(a|b)*c`, last to first:
+//!
+//! ```text
+//! 0 Accept   1 Char c, then 0   2 Again 6   3 Close 1, then 2   4 Char a, then 3   5 Char b, then 3
+//! 6 Open, then 7   7 Choice 4, 5   8 Loop 6, then 1   9 Step, then 8
+//! ```
+ghost use Rattle.std.specs.Prelude.{◌≡◌, ℕ, [], ◌∷◌, ◌++◌, length, map, IfOk, slice_set};
+ghost use Rattle.tm_onig_class.specs.Tree.{tree_of, trees};
+ghost use Rattle.tm_onig_vm.specs.Code.{Code, AheadCode, BehindCode, RowCode, AnyCode, Grows, IsCodeOf};
+
+use crate::copies::{copy_groups, copy_set};
+use crate::widths;
+use sqlite_items::Items;
+use std::alloc::Global;
+use tm_defs::memory::OutOfMemory;
+use tm_onig_class::patterns::{Pattern, Position};
+use tm_onig_class::sets::Set;
+
+/// One case of the search. `next` is the place where it goes on.
+#[derive(Drop)]
+pub enum Instr {
+    /// Not made yet.
+    Hole,
+    /// Success.
+    Accept,
+    Char {
+        c: char,
+        fold: bool,
+        next: u32,
+    },
+    Any {
+        newline: bool,
+        next: u32,
+    },
+    Member {
+        set: Set,
+        fold: bool,
+        next: u32,
+    },
+    Step {
+        next: u32,
+    },
+    Choice {
+        targets: Items<u32>,
+    },
+    /// A group begins here.
+    Open {
+        next: u32,
+    },
+    Close {
+        number: u32,
+        next: u32,
+    },
+    Loop {
+        body: u32,
+        least: u32,
+        greatest: Option<u32>,
+        greedy: bool,
+        next: u32,
+    },
+    /// The end of a loop's round.
+    Again {
+        body: u32,
+        least: u32,
+        greatest: Option<u32>,
+        greedy: bool,
+        next: u32,
+    },
+    Read {
+        groups: Items<u32>,
+        fold: bool,
+        next: u32,
+    },
+    Place {
+        place: Position,
+        next: u32,
+    },
+    /// The body is searched alone from here on. The search goes on here if it `stays`, else where the
+    /// body ends.
+    Ahead {
+        body: u32,
+        negative: bool,
+        stays: bool,
+        next: u32,
+    },
+    /// The body is searched alone from the starts before, up to here.
+    Behind {
+        body: u32,
+        negative: bool,
+        least: u64,
+        greatest: Option<u64>,
+        next: u32,
+    },
+    /// The end of a look-behind: the search must have come to where it began.
+    Arrive {
+        next: u32,
+    },
+}
+
+/// Adds an instruction at the end, and gives its place.
+fn push(code: &mut Vec<Instr>, instr: Instr) -> Result<u32, OutOfMemory>
+    ensures { IfOk result (λ pc. (code.new.items ≡ code.old.items ++ instr ∷ []) × (pc ≡ length code.old.items)) }
+{
+    let Ok(pc) = u32::try_from(code.len()) else {
+        return Err(OutOfMemory);
+    };
+    code.push(instr)?;
+    Ok(pc)
+}
+
+/// Puts an instruction in the place of a hole.
+fn patch(code: &mut Vec<Instr>, at: u32, instr: Instr)
+    ensures { code.new.items ≡ slice_set code.old.items at instr }
+{
+    let at = at as usize;
+    if at < code.len() {
+        code[at] = instr;
+    }
+}
+
+/// Adds the code of the pattern, which goes on at `next`, and gives the place where it begins.
+#[cycle(emit)]
+fn emit(
+    alloc: Global,
+    code: &mut Vec<Instr>,
+    pattern: &Pattern,
+    next: u32,
+) -> Result<u32, OutOfMemory>
+    ensures { IfOk result (λ pc. Grows code.old.items code.new.items × Code code.new.items (tree_of pattern.now) pc next) }
+{
+    match pattern {
+        Pattern::Empty => push(code, Instr::Step { next }),
+        Pattern::Char { c, fold } => push(
+            code,
+            Instr::Char {
+                c: *c,
+                fold: *fold,
+                next,
+            },
+        ),
+        Pattern::Any { newline } => push(
+            code,
+            Instr::Any {
+                newline: *newline,
+                next,
+            },
+        ),
+        Pattern::Set { set, fold } => {
+            let own = copy_set(set)?;
+            push(
+                code,
+                Instr::Member {
+                    set: own,
+                    fold: *fold,
+                    next,
+                },
+            )
+        }
+        Pattern::Cat(parts) => {
+            let first = emit_row(alloc, code, parts.as_slice(), next)?;
+            push(code, Instr::Step { next: first })
+        }
+        Pattern::Alt(parts) => {
+            let targets = emit_any(alloc, code, parts.as_slice(), next)?;
+            push(
+                code,
+                Instr::Choice {
+                    targets: Items::from_vec(targets),
+                },
+            )
+        }
+        Pattern::Group { number, body } => {
+            let last = push(
+                code,
+                Instr::Close {
+                    number: *number,
+                    next,
+                },
+            )?;
+            let first = emit(alloc, code, body, last)?;
+            push(code, Instr::Open { next: first })
+        }
+        Pattern::Atomic(body) => emit_ahead(alloc, code, body, false, false, next),
+        Pattern::Repeat {
+            body,
+            least,
+            greatest,
+            greedy,
+        } => {
+            let last = push(code, Instr::Hole)?;
+            let first = emit(alloc, code, body, last)?;
+            patch(
+                code,
+                last,
+                Instr::Again {
+                    body: first,
+                    least: *least,
+                    greatest: *greatest,
+                    greedy: *greedy,
+                    next,
+                },
+            );
+            push(
+                code,
+                Instr::Loop {
+                    body: first,
+                    least: *least,
+                    greatest: *greatest,
+                    greedy: *greedy,
+                    next,
+                },
+            )
+        }
+        Pattern::Look {
+            body,
+            ahead,
+            negative,
+        } => {
+            if *ahead {
+                return emit_ahead(alloc, code, body, *negative, true, next);
+            }
+            emit_behind(alloc, code, body, *negative, next)
+        }
+        Pattern::Back { groups, fold } => {
+            let own = copy_groups(alloc, groups.as_slice())?;
+            push(
+                code,
+                Instr::Read {
+                    groups: own,
+                    fold: *fold,
+                    next,
+                },
+            )
+        }
+        Pattern::Position(place) => push(
+            code,
+            Instr::Place {
+                place: *place,
+                next,
+            },
+        ),
+    }
+}
+
+/// The code of a body that is searched alone from the position on.
+#[cycle(emit)]
+fn emit_ahead(
+    alloc: Global,
+    code: &mut Vec<Instr>,
+    body: &Pattern,
+    negative: bool,
+    stays: bool,
+    next: u32,
+) -> Result<u32, OutOfMemory>
+    ensures { IfOk result (λ pc. Grows code.old.items code.new.items × AheadCode code.new.items (tree_of body.now) negative stays pc next) }
+{
+    let last = push(code, Instr::Accept)?;
+    let first = emit(alloc, code, body, last)?;
+    push(
+        code,
+        Instr::Ahead {
+            body: first,
+            negative,
+            stays,
+            next,
+        },
+    )
+}
+
+/// The code of a body that is searched alone up to the position.
+#[cycle(emit)]
+fn emit_behind(
+    alloc: Global,
+    code: &mut Vec<Instr>,
+    body: &Pattern,
+    negative: bool,
+    next: u32,
+) -> Result<u32, OutOfMemory>
+    ensures { IfOk result (λ pc. Grows code.old.items code.new.items × BehindCode code.new.items (tree_of body.now) negative pc next) }
+{
+    let end = push(code, Instr::Accept)?;
+    let last = push(code, Instr::Arrive { next: end })?;
+    let first = emit(alloc, code, body, last)?;
+    push(
+        code,
+        Instr::Behind {
+            body: first,
+            negative,
+            least: widths::least(body),
+            greatest: widths::greatest(body),
+            next,
+        },
+    )
+}
+
+#[cycle(emit)]
+fn emit_row(
+    alloc: Global,
+    code: &mut Vec<Instr>,
+    parts: &[Pattern],
+    next: u32,
+) -> Result<u32, OutOfMemory>
+    ensures { IfOk result (λ pc. Grows code.old.items code.new.items × RowCode code.new.items (trees (map tree_of parts.now)) pc next) }
+{
+    let mut pc = next;
+    for i in (0..parts.len()).rev() {
+        pc = emit(alloc, code, &parts[i], pc)?;
+    }
+    Ok(pc)
+}
+
+#[cycle(emit)]
+fn emit_any(
+    alloc: Global,
+    code: &mut Vec<Instr>,
+    parts: &[Pattern],
+    next: u32,
+) -> Result<Vec<u32>, OutOfMemory>
+    ensures { IfOk result (λ targets. Grows code.old.items code.new.items × AnyCode code.new.items (trees (map tree_of parts.now)) targets.items next) }
+{
+    let mut targets = Vec::new(alloc);
+    for i in 0..parts.len() {
+        targets.push(emit(alloc, code, &parts[i], next)?)?;
+    }
+    Ok(targets)
+}
+
+/// The code of a pattern, and the place where it begins.
+pub(crate) fn code_of(alloc: Global, pattern: &Pattern) -> Result<(Vec<Instr>, u32), OutOfMemory>
+    ensures { IfOk result (λ made. IsCodeOf made.0.items made.1 (tree_of pattern.now)) }
+{
+    let mut code = Vec::new(alloc);
+    let last = push(&mut code, Instr::Accept)?;
+    let first = emit(alloc, &mut code, pattern, last)?;
+    Ok((code, first))
+}
