@@ -5,8 +5,11 @@
 //! a stack of numbers beside it. For `(a|b)*c`, last to first:
 //!
 //! ```text
-//! 0 Accept   1 Char c, then 0   2 Again 6   3 Close 1, then 2   4 Char a, then 3   5 Char b, then 3
-//! 6 Open, then 7   7 Choice 4, 5   8 Loop 6, then 1   9 Step, then 8
+//! 0 Accept            5 Char b, then 3
+//! 1 Char c, then 0    6 Choice of 4, 5
+//! 2 Again 7, then 1   7 Open, then 6
+//! 3 Close 1, then 2   8 Loop 7, then 1
+//! 4 Char a, then 3    9 Step, then 8, where the search begins
 //! ```
 ghost use Rattle.std.specs.Prelude.{◌≡◌, ℕ, [], ◌∷◌, ◌++◌, length, map, IfOk, slice_set};
 ghost use Rattle.tm_onig_class.specs.Tree.{tree_of, trees};
