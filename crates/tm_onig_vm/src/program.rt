@@ -15,7 +15,7 @@ use crate::goals::Found;
 use crate::places::Anchors;
 use crate::plain::{blank_caps, with_whole};
 use crate::running::run;
-use crate::thread::ahead_threads;
+use crate::thread::{Thread, begin};
 use crate::widths::last_group;
 use std::alloc::Global;
 use std::marker::Model;
@@ -64,13 +64,14 @@ pub fn compile(alloc: Global, pattern: &Pattern) -> Result<Prog, OutOfMemory>
     })
 }
 
-/// The first success of the program at one start.
+/// The first success of the program at one start. `threads` is the room of the search, whatever is in it.
 fn attempt_from(
     alloc: Global,
     line: &[char],
     anchors: Anchors,
     prog: &Prog,
     start: usize,
+    threads: &mut Vec<Thread>,
     budget: &mut u64,
 ) -> Result<Option<Found>, FindFault>
     requires small { length line.now < 2 ^ 31 }
@@ -81,7 +82,7 @@ fn attempt_from(
     ensures falls { (budget.new ≤ budget.old) × (budget.old ≤ budget.new + (at_start (subject_of line.now anchors) (tree_of prog.now) start).cost) }
 {
     let blank = blank_caps(alloc, prog.groups as usize + 1)?;
-    let threads = ahead_threads(alloc, prog.first, start, blank)?;
+    begin(alloc, threads, prog.first, start, blank)?;
     run(alloc, line, anchors, &prog.code, threads, budget)
 }
 
@@ -113,8 +114,9 @@ pub fn find(
         allow_a,
         allow_g,
     };
+    let mut threads = Vec::new(alloc);
     'starts: for start in from..chars.len() + 1 {
-        match attempt_from(alloc, chars, anchors, prog, start, budget) {
+        match attempt_from(alloc, chars, anchors, prog, start, &mut threads, budget) {
             Ok(None) => {}
             Ok(Some(found)) => return Ok(Some(with_whole(found, start))),
             Err(fault) => return Err(fault),

@@ -14,27 +14,28 @@ use crate::places::Anchors;
 use crate::thread::{Thread, resume};
 use std::alloc::Global;
 
-/// The first success of the threads. Each case that is entered takes one from the budget.
+/// The first success of the threads, which are used up. Each case that is entered takes one from the
+/// budget.
 pub(crate) fn run(
     alloc: Global,
     line: &[char],
     anchors: Anchors,
     code: &[Instr],
-    mut threads: Vec<Thread>,
+    threads: &mut Vec<Thread>,
     budget: &mut u64,
 ) -> Result<Option<Found>, FindFault>
-    requires stands { (o : Outcome) × AllMean (subject_of line.now anchors) code.now (plains threads.items) o }
+    requires stands { (o : Outcome) × AllMean (subject_of line.now anchors) code.now (plains threads.old.items) o }
     requires small { length line.now < 2 ^ 31 }
-    ensures hit { (o : Outcome) → AllMean (subject_of line.now anchors) code.now (plains threads.items) o → IfOk result (λ found. option_map hit_of found ≡ o.hit) }
-    ensures cost { (o : Outcome) → AllMean (subject_of line.now anchors) code.now (plains threads.items) o → OnOk result (budget.new + o.cost ≡ budget.old) }
-    ensures over { (o : Outcome) → AllMean (subject_of line.now anchors) code.now (plains threads.items) o → IsErrOf result FindFault.Budget → budget.old < o.cost }
-    ensures falls { (o : Outcome) → AllMean (subject_of line.now anchors) code.now (plains threads.items) o → (budget.new ≤ budget.old) × (budget.old ≤ budget.new + o.cost) }
+    ensures hit { (o : Outcome) → AllMean (subject_of line.now anchors) code.now (plains threads.old.items) o → IfOk result (λ found. option_map hit_of found ≡ o.hit) }
+    ensures cost { (o : Outcome) → AllMean (subject_of line.now anchors) code.now (plains threads.old.items) o → OnOk result (budget.new + o.cost ≡ budget.old) }
+    ensures over { (o : Outcome) → AllMean (subject_of line.now anchors) code.now (plains threads.old.items) o → IsErrOf result FindFault.Budget → budget.old < o.cost }
+    ensures falls { (o : Outcome) → AllMean (subject_of line.now anchors) code.now (plains threads.old.items) o → (budget.new ≤ budget.old) × (budget.old ≤ budget.new + o.cost) }
 {
     'steps: while let Some(thread) = threads.pop() {
         let Some(instr) = instr_at(code, thread.pc) else {
             return Ok(None);
         };
-        match act(alloc, line, anchors, instr, thread, &mut threads)? {
+        match act(alloc, line, anchors, instr, thread, threads)? {
             Acted::Succeeds(found) => {
                 if *budget == 0 {
                     return Err(FindFault::Budget);
@@ -54,13 +55,13 @@ pub(crate) fn run(
                 }
                 *budget -= 1;
                 let Waiting {
-                    inner,
+                    mut inner,
                     negative,
                     stays,
                     rest,
                 } = waiting;
-                match run(alloc, line, anchors, code, inner, budget) {
-                    Ok(found) => resume(&mut threads, negative, stays, rest, found)?,
+                match run(alloc, line, anchors, code, &mut inner, budget) {
+                    Ok(found) => resume(threads, negative, stays, rest, found)?,
                     Err(fault) => return Err(fault),
                 }
             }

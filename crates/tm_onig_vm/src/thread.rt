@@ -117,6 +117,21 @@ pub(crate) fn turn(
     }
 }
 
+/// Leaves the one thread with which a search begins, in the room that is there.
+pub(crate) fn begin(
+    alloc: Global,
+    threads: &mut Vec<Thread>,
+    body: u32,
+    pos: usize,
+    caps: SmallVec<Option<(u32, u32)>, 8>,
+) -> Result<(), OutOfMemory>
+    ensures { OnOk result (plains threads.new.items ≡ at_pc body [] pos caps.items ∷ []) }
+{
+    threads.clear();
+    let numbers = Vec::new(alloc);
+    go(threads, body, numbers, pos, caps)
+}
+
 /// The thread that a search of a body alone begins with.
 pub(crate) fn ahead_threads(
     alloc: Global,

@@ -22,7 +22,7 @@ module _ (t : ℕ) (c : In_ok-found t) where
   spent = c.args.budget.now - c.steps.budget
 
   abbrev Meant : Outcome → Type 0
-  Meant o = AllMean s c.args.code.now (plains c.args.threads.items) o
+  Meant o = AllMean s c.args.code.now (plains c.args.threads.now.items) o
 
   costed : (o : Outcome) → Meant o → (cost : ℕ) → Acts s c.in-Some-instr_at.instr.now c.in-Some.thread c.pop.new.self.items c.act.new.threads.items (A.Costs cost) →
       Runs s c.args.code.now o (spent + cost) (plains c.act.new.threads.items) × (0 < cost)
