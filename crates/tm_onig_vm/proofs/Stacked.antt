@@ -1,5 +1,5 @@
 -- What a thread on top leaves.
-use Rattle.std.proofs.Common.{◌≡◌, ℕ, ◌+◌, ◌<◌, ◌≤◌, List, [], ◌∷◌, ◌++◌, Option, refl, ap, ◌∙◌, reverse, ◌-◌, suc, min, map, ap₂, lt-ltb, le-ltb, arith}
+use Rattle.std.proofs.Common.{◌≡◌, ℕ, ◌+◌, ◌<◌, ◌≤◌, List, [], ◌∷◌, ◌++◌, Option, refl, ap, ◌∙◌, ◌-◌, suc, min, map, ap₂, lt-ltb, le-ltb, arith}
 use Rattle.tm_onig_search.specs.Outcomes.{Caps}
 use Rattle.tm_onig_search.specs.Search.{width_or}
 use Rattle.tm_onig_vm.specs.Machine.{Thread as Plain, at_pc, starts, behind_of}
@@ -13,11 +13,6 @@ plains-push (x ∷ ts) t = ap (λ (ps : List Plain). ps ++ plain x ∷ []) (plai
 
 pub pushed : (old new : List Thread) (t : Thread) → new ≡ old ++ t ∷ [] → plains new ≡ plain t ∷ plains old
 pushed old new t is = rw is (plains-push old t)
-
-pub began : (first : ℕ) (numbers : List ℕ) (from : ℕ) (caps : Caps) (old new : List Thread) → numbers ≡ [] → old ≡ [] →
-    plains new ≡ at_pc first (reverse numbers) from caps ∷ plains old → plains new ≡ at_pc first [] from caps ∷ []
-unfolding plains
-began first numbers from caps old new none empty is = rw (none, empty) at is
 
 -- the starts of a look-behind
 pub starts_none : (f : ℕ → Plain) (lowest n : ℕ) (bs : List Thread) → n ≡ 0 → bs ≡ [] → plains bs ≡ map f (starts lowest n)

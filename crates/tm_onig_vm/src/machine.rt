@@ -5,9 +5,10 @@
 ghost use Rattle.std.specs.Prelude.{◌≡◌, ℕ, ◌-◌, ◌+◌, ◌^◌, ◌<◌, ◌≤◌, ◌==◌, Option, List, [], ◌∷◌, ◌++◌, length, map, reverse, slice_get, slice_set, option_map, min, nat_lt, Some, OnOk, IfOk, IsErrOf, if◌then◌else◌};
 ghost use Rattle.std.specs.Option.{option_copied};
 ghost use Rattle.tm_onig_search.specs.Outcomes.{Outcome};
-ghost use Rattle.tm_onig_search.specs.Places.{passes, matches, in_set, is_any, holds};
+ghost use Rattle.tm_onig_search.specs.Places.{Subject, passes, matches, in_set, is_any, holds};
 ghost use Rattle.tm_onig_search.specs.Search.{is_at, last_set, width_or};
 ghost use Rattle.tm_onig_vm.specs.Anchors.{subject_of};
+ghost use Rattle.tm_onig_vm.specs.declared.thread.Thread as stack;
 ghost use Rattle.tm_onig_vm.specs.Machine.{at_pc, turn_of, behind_of, goes_if, read_of, resumed_threads, AllMean};
 ghost use Rattle.tm_onig_vm.specs.Steps.{hit_of};
 ghost use Rattle.tm_onig_vm.specs.Threads.{plain, plains, Does, Acts};
@@ -85,19 +86,14 @@ fn read_act(
 
 #[tactic(auto, unfolding(crate::specs::Machine::exec))]
 fn close_act(
-    line: &[char],
-    anchors: Anchors,
     number: u32,
     next: u32,
     thread: Thread,
     threads: &mut Vec<Thread>,
 ) -> Result<Acted, OutOfMemory>
-    requires within { thread.pos ≤ length line.now }
-    requires small { length line.now < 2 ^ 31 }
-    ensures { IfOk result (λ acted. Acts (subject_of line.now anchors) (Instr.Close number next) thread threads.old.items threads.new.items acted) }
+    requires small { thread.pos < 2 ^ 31 }
+    ensures { (s : Subject) → IfOk result (λ acted. Acts s (Instr.Close number next) thread threads.old.items threads.new.items acted) }
 {
-    let _ = line;
-    let _ = anchors;
     let Thread {
         mut numbers,
         pos,
@@ -117,8 +113,6 @@ fn close_act(
 #[tactic(auto, unfolding(crate::specs::Machine::exec))]
 fn again_act(
     alloc: Global,
-    line: &[char],
-    anchors: Anchors,
     body: u32,
     least: u32,
     greatest: Option<u32>,
@@ -127,12 +121,9 @@ fn again_act(
     thread: Thread,
     threads: &mut Vec<Thread>,
 ) -> Result<Acted, OutOfMemory>
-    requires within { thread.pos ≤ length line.now }
-    requires small { length line.now < 2 ^ 31 }
-    ensures { IfOk result (λ acted. Acts (subject_of line.now anchors) (Instr.Again body least greatest greedy next) thread threads.old.items threads.new.items acted) }
+    requires small { thread.pos < 2 ^ 31 }
+    ensures { (s : Subject) → IfOk result (λ acted. Acts s (Instr.Again body least greatest greedy next) thread threads.old.items threads.new.items acted) }
 {
-    let _ = line;
-    let _ = anchors;
     let Thread {
         mut numbers,
         pos,
@@ -158,16 +149,12 @@ fn again_act(
 #[tactic(auto, unfolding(crate::specs::Machine::exec))]
 fn choice_act(
     alloc: Global,
-    line: &[char],
-    anchors: Anchors,
     targets: &[u32],
     thread: Thread,
     threads: &mut Vec<Thread>,
 ) -> Result<Acted, OutOfMemory>
-    ensures { IfOk result (λ acted. Acts (subject_of line.now anchors) (Instr.Choice targets.now) thread threads.old.items threads.new.items acted) }
+    ensures { (s : Subject) → IfOk result (λ acted. Acts s (Instr.Choice targets.now) thread threads.old.items threads.new.items acted) }
 {
-    let _ = line;
-    let _ = anchors;
     let Thread {
         numbers,
         pos,
@@ -179,17 +166,9 @@ fn choice_act(
 }
 
 #[tactic(auto, unfolding(crate::specs::Machine::exec))]
-fn arrive_act(
-    line: &[char],
-    anchors: Anchors,
-    next: u32,
-    thread: Thread,
-    threads: &mut Vec<Thread>,
-) -> Result<Acted, OutOfMemory>
-    ensures { IfOk result (λ acted. Acts (subject_of line.now anchors) (Instr.Arrive next) thread threads.old.items threads.new.items acted) }
+fn arrive_act(next: u32, thread: Thread, threads: &mut Vec<Thread>) -> Result<Acted, OutOfMemory>
+    ensures { (s : Subject) → IfOk result (λ acted. Acts s (Instr.Arrive next) thread threads.old.items threads.new.items acted) }
 {
-    let _ = line;
-    let _ = anchors;
     let Thread {
         mut numbers,
         pos,
@@ -209,20 +188,14 @@ fn arrive_act(
 #[tactic(auto, unfolding(crate::specs::Machine::exec))]
 fn ahead_act(
     alloc: Global,
-    line: &[char],
-    anchors: Anchors,
     body: u32,
     negative: bool,
     stays: bool,
     next: u32,
     thread: Thread,
-    threads: &mut Vec<Thread>,
 ) -> Result<Acted, OutOfMemory>
-    ensures { IfOk result (λ acted. Acts (subject_of line.now anchors) (Instr.Ahead body negative stays next) thread threads.old.items threads.new.items acted) }
+    ensures { (s : Subject) (others : List stack.Thread) → IfOk result (λ acted. Acts s (Instr.Ahead body negative stays next) thread others others acted) }
 {
-    let _ = line;
-    let _ = anchors;
-    let _ = threads;
     let Thread {
         numbers,
         pos,
@@ -247,23 +220,16 @@ fn ahead_act(
 #[tactic(auto, unfolding(crate::specs::Machine::exec))]
 fn behind_act(
     alloc: Global,
-    line: &[char],
-    anchors: Anchors,
     body: u32,
     negative: bool,
     least: u64,
     greatest: Option<u64>,
     next: u32,
     thread: Thread,
-    threads: &mut Vec<Thread>,
 ) -> Result<Acted, OutOfMemory>
-    requires within { thread.pos ≤ length line.now }
-    requires small { length line.now < 2 ^ 31 }
-    ensures { IfOk result (λ acted. Acts (subject_of line.now anchors) (Instr.Behind body negative least greatest next) thread threads.old.items threads.new.items acted) }
+    requires small { thread.pos < 2 ^ 31 }
+    ensures { (s : Subject) (others : List stack.Thread) → IfOk result (λ acted. Acts s (Instr.Behind body negative least greatest next) thread others others acted) }
 {
-    let _ = line;
-    let _ = anchors;
-    let _ = threads;
     let Thread {
         numbers,
         pos,
@@ -329,9 +295,7 @@ pub(crate) fn act(
             go(threads, *next, numbers, pos, caps)?;
             Ok(Acted::Costs(1))
         }
-        Instr::Choice { targets } => {
-            choice_act(alloc, line, anchors, targets.as_slice(), thread, threads)
-        }
+        Instr::Choice { targets } => { choice_act(alloc, targets.as_slice(), thread, threads) }
         Instr::Open { next } => {
             let Thread {
                 mut numbers,
@@ -343,7 +307,7 @@ pub(crate) fn act(
             go(threads, *next, numbers, pos, caps)?;
             Ok(Acted::Costs(1))
         }
-        Instr::Close { number, next } => close_act(line, anchors, *number, *next, thread, threads),
+        Instr::Close { number, next } => close_act(*number, *next, thread, threads),
         Instr::Loop {
             body,
             least,
@@ -369,7 +333,7 @@ pub(crate) fn act(
             greedy,
             next,
         } => again_act(
-            alloc, line, anchors, *body, *least, *greatest, *greedy, *next, thread, threads,
+            alloc, *body, *least, *greatest, *greedy, *next, thread, threads,
         ),
         Instr::Read { groups, fold, next } => {
             let group = last_set(thread.caps.as_slice(), groups.as_slice());
@@ -385,19 +349,15 @@ pub(crate) fn act(
             negative,
             stays,
             next,
-        } => ahead_act(
-            alloc, line, anchors, *body, *negative, *stays, *next, thread, threads,
-        ),
+        } => ahead_act(alloc, *body, *negative, *stays, *next, thread),
         Instr::Behind {
             body,
             negative,
             least,
             greatest,
             next,
-        } => behind_act(
-            alloc, line, anchors, *body, *negative, *least, *greatest, *next, thread, threads,
-        ),
-        Instr::Arrive { next } => arrive_act(line, anchors, *next, thread, threads),
+        } => behind_act(alloc, *body, *negative, *least, *greatest, *next, thread),
+        Instr::Arrive { next } => arrive_act(*next, thread, threads),
     }
 }
 

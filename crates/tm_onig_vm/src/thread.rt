@@ -142,8 +142,7 @@ pub(crate) fn ahead_threads(
     ensures { IfOk result (λ threads. plains threads.items ≡ at_pc body [] pos caps.items ∷ []) }
 {
     let mut threads = Vec::new(alloc);
-    let numbers = Vec::new(alloc);
-    go(&mut threads, body, numbers, pos, caps)?;
+    begin(alloc, &mut threads, body, pos, caps)?;
     Ok(threads)
 }
 
