@@ -1,10 +1,12 @@
 pub mod Commands
 pub mod Completes
-pub mod LiteralRuns
+pub mod GrammarRuns
 pub mod Loads
 pub mod Outcomes
 pub mod PlayRuns
 pub mod ShownLines
 pub mod StandSteps
 pub mod StepTests
+pub mod StepsDone
+pub mod Tells
 pub mod TextSizes

@@ -1,16 +1,22 @@
 -- How a run ends.
-use Rattle.std.proofs.Common.{ℕ, List, [], ◌∷◌, Option, sym, subst, inl, inr}
+use Rattle.std.proofs.Common.{◌≡◌, ℕ, List, [], ◌∷◌, zero, suc, Option, Some, None, Bool, true, false, sym, subst, inl, inr}
+use Rattle.std.specs.Prelude.{slice_get}
 use Rattle.tm_app.specs.declared.play.Fault.TheVariants as fault
 use Rattle.tm_app.specs.declared.status.What.{What}
 use Rattle.tm_app.specs.declared.status.What.TheVariants.{NotYet, BadPlace}
 use Rattle.tm_app.specs.declared.status.Status.{Status}
-use Rattle.tm_app.specs.declared.status.Status.TheVariants.{Ok, Usage, FileFault, Refused, SinkFault, OutOfMemory, TableFull}
+use Rattle.tm_app.specs.declared.status.Status.TheVariants.{Ok, Usage, FileFault, Refused, SinkFault, OutOfMemory, BudgetSeen, TableFull}
 use Rattle.tm_app.specs.Report.{Keeps}
-use Rattle.tm_app.specs.Reading.{Names, IsCommand, IsLoaded}
-use Rattle.tm_app.specs.declared.setup.Setup.{Setup}
+use Rattle.tm_defs.specs.declared.changes.Change.{Change}
+use Rattle.tm_defs.specs.declared.events.Step.TheVariants.{Edit}
+use Rattle.tm_forms.specs.declared.script.ScriptStep.TheVariants.{Core}
+use Rattle.tm_forms.specs.declared.script.Scripted.{Scripted}
+use Rattle.tm_forms.specs.Script.{scan_steps}
+use Rattle.tm_app.specs.Reading.{Names, IsCommand, IsLoaded, GivesScript}
+use Rattle.tm_app.specs.Setup.{SetupData}
 use Rattle.tm_machine.specs.Machine.{machine_of}
 use Rattle.tm_machine.specs.Changes.{lines_of}
-use Rattle.tm_app.specs.Outcome.{Outcome, StopsLoad, SetupStops, literal_rules, IsBadPlace}
+use Rattle.tm_app.specs.Outcome.{Outcome, StopsLoad, SetupStops, IsDone, grammar_rules, IsBadPlace}
 use Rattle.tm_app.proofs.PlayRuns.{some-now, all-now}
 
 module _ (words : List (List ℕ)) (tells : List ℕ → Option (List ℕ)) (failed failed_now : List (List ℕ)) (taken taken_now : Option (List ℕ)) (faults faults_now : ℕ) where
@@ -22,33 +28,53 @@ module _ (words : List (List ℕ)) (tells : List ℕ → Option (List ℕ)) (fai
   load-outcome Ok h = absurd h.2
   load-outcome Usage h = absurd h.2
   load-outcome SinkFault h = absurd h.2
+  load-outcome BudgetSeen h = absurd h.2
   load-outcome TableFull h = absurd h.2
+
+  done-now : (seen : Bool) → IsDone words tells failed failed_now taken taken_now faults faults_now seen → Outcome words tells failed failed_now taken taken_now faults faults_now OutOfMemory
+  done-now seen h = inr (h.0, h.1, tt, (h.2.0, h.2.1, all-now (grammar_rules (h.2.0.grammar ∷ []) h.2.0.budget) (machine_of (lines_of h.2.0.text)) h.2.2.1 h.2.0.script taken taken_now h.2.2.0 h.2.2.2 h.2.2.3))
 
   -- want of memory may come in place of each
   no-memory : (status : Status) → Outcome words tells failed failed_now taken taken_now faults faults_now status → Outcome words tells failed failed_now taken taken_now faults faults_now OutOfMemory
   no-memory (FileFault name) h = inl h.3
   no-memory (Refused name NotYet) h = inl h.3
-  no-memory (Refused name (BadPlace line)) h = inr (h.0, h.1, tt, (h.3.0, h.3.1, some-now (literal_rules (h.3.0.grammar ∷ [])) (machine_of (lines_of h.3.0.text)) h.3.0.script taken taken_now h.3.2.0 h.3.2.1))
+  no-memory (Refused name (BadPlace line)) h = inr (h.0, h.1, tt, (h.3.0, h.3.1, some-now (grammar_rules (h.3.0.grammar ∷ []) h.3.0.budget) (machine_of (lines_of h.3.0.text)) h.3.0.script taken taken_now h.3.2.0 h.3.2.1))
   no-memory OutOfMemory h = h
   no-memory Usage h = inl h.1
   no-memory SinkFault h = inr (h.0, h.1, tt, (h.3.0, h.3.1, h.3.2.0))
-  no-memory TableFull h = inr (h.0, h.1, tt, (h.3.0, h.3.1, some-now (literal_rules (h.3.0.grammar ∷ [])) (machine_of (lines_of h.3.0.text)) h.3.0.script taken taken_now h.3.2.0 h.3.2.1))
-  no-memory Ok h = inr (h.0, h.1, tt, (h.2.0, h.2.1, all-now (literal_rules (h.2.0.grammar ∷ [])) (machine_of (lines_of h.2.0.text)) h.2.2.1 h.2.0.script taken taken_now h.2.2.0 h.2.2.2 h.2.2.3))
+  no-memory TableFull h = inr (h.0, h.1, tt, (h.3.0, h.3.1, some-now (grammar_rules (h.3.0.grammar ∷ []) h.3.0.budget) (machine_of (lines_of h.3.0.text)) h.3.0.script taken taken_now h.3.2.0 h.3.2.1))
+  no-memory Ok h = done-now false h
+  no-memory BudgetSeen h = done-now true h
 
   pub keeps-outcome : (old new : Status) → Keeps old new → Outcome words tells failed failed_now taken taken_now faults faults_now old → Outcome words tells failed failed_now taken taken_now faults faults_now new
   keeps-outcome old new (inl e) h = let P : Status → Type 0 = λ s. Outcome words tells failed failed_now taken taken_now faults faults_now s in subst P (sym e) h
   keeps-outcome old new (inr e) h = let P : Status → Type 0 = λ s. Outcome words tells failed failed_now taken taken_now faults faults_now s in subst P (sym e) (no-memory old h)
 
   -- a bad place is told of the script
-  pub place-outcome : (names : Names) (setup : Setup) (line : ℕ) (status : Status) → IsCommand words names → IsLoaded names tells setup → SetupStops setup taken taken_now faults faults_now (fault.BadPlace line) → IsBadPlace names.script line status →
+  pub place-outcome : (names : Names) (setup : SetupData) (script : List ℕ) (line : ℕ) (status : Status) → names.script ≡ Some script → IsCommand words names → IsLoaded names tells setup → SetupStops setup taken taken_now faults faults_now (fault.BadPlace line) → IsBadPlace script line status →
       Outcome words tells failed failed_now taken taken_now faults faults_now status
-  place-outcome names setup line (Refused name what) command loaded stop is =
+  place-outcome names setup script line (Refused name what) named command loaded stop is =
       let P : What → Type 0 = λ w. Outcome words tells failed failed_now taken taken_now faults faults_now (Refused name w) in
-      subst P (sym is.1) (names, command, is.0, (setup, loaded, stop))
-  place-outcome names setup line OutOfMemory command loaded stop is =
-      inr (names, command, tt, (setup, loaded, some-now (literal_rules (setup.grammar ∷ [])) (machine_of (lines_of setup.text)) setup.script taken taken_now stop.0 stop.1))
-  place-outcome names setup line Ok command loaded stop is = absurd is
-  place-outcome names setup line Usage command loaded stop is = absurd is
-  place-outcome names setup line (FileFault name) command loaded stop is = absurd is
-  place-outcome names setup line SinkFault command loaded stop is = absurd is
-  place-outcome names setup line TableFull command loaded stop is = absurd is
+      subst P (sym is.1) (names, command, (script, named, is.0), (setup, loaded, stop))
+  place-outcome names setup script line OutOfMemory named command loaded stop is =
+      inr (names, command, tt, (setup, loaded, some-now (grammar_rules (setup.grammar ∷ []) setup.budget) (machine_of (lines_of setup.text)) setup.script taken taken_now stop.0 stop.1))
+  place-outcome names setup script line Ok named command loaded stop is = absurd is
+  place-outcome names setup script line Usage named command loaded stop is = absurd is
+  place-outcome names setup script line (FileFault name) named command loaded stop is = absurd is
+  place-outcome names setup script line SinkFault named command loaded stop is = absurd is
+  place-outcome names setup script line BudgetSeen named command loaded stop is = absurd is
+  place-outcome names setup script line TableFull named command loaded stop is = absurd is
+
+-- a scan has no edit, so no place of it is bad
+pub scan-has-no-place : (settings text : List ℕ) (script : Option (List ℕ)) (tells : List ℕ → Option (List ℕ)) (setup : SetupData) (taken taken_now : Option (List ℕ)) (faults faults_now line : ℕ) →
+    IsLoaded (record { settings = settings; text = text; script = script }) tells setup → script ≡ None → SetupStops setup taken taken_now faults faults_now (fault.BadPlace line) → ⊥
+scan-has-no-place settings text script tells setup taken taken_now faults faults_now line loaded none stop =
+    let G : Option (List ℕ) → Type 0 = λ o. GivesScript tells o setup.script in
+    let steps : setup.script ≡ scan_steps = subst G none loaded.script in
+    let P : List Scripted → Type 0 = λ l. slice_get l stop.0 ≡ Some stop.2.0 in
+    no-edit stop.0 stop.2.0 stop.2.2.0 (subst P steps stop.2.1) stop.2.2.1
+  where
+    no-edit : (k : ℕ) (x : Scripted) (change : Change) → slice_get scan_steps k ≡ Some x → x.step ≡ Core (Edit change) → ⊥
+    no-edit zero x change at is = cc
+    no-edit (suc zero) x change at is = cc
+    no-edit (suc (suc k)) x change at is = cc

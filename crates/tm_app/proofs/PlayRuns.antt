@@ -1,14 +1,14 @@
 -- A run of steps, one step more, and how it stops.
 use Rattle.std.proofs.Common.{◌≡◌, ℕ, ◌+◌, ◌<◌, ◌≤◌, List, [], ◌∷◌, ◌++◌, length, take, get_or, Option, Some, None, refl, ap, sym, ◌∙◌, append_assoc, subst, inl, inr, arith}
-use Rattle.std.specs.Prelude.{Contains, Result, Ok, Err, IfErr, OnOk}
+use Rattle.std.specs.Prelude.{Contains, Result, Ok, Err, IfOk, IfErr, OnOk}
 use Rattle.std.proofs.lemmas.List.{append-nil, take_more, take_all}
 use Rattle.std.proofs.lemmas.Option.{slice_get-get_or}
 use Rattle.tm_defs.specs.declared.events.Step.{Step}
 use Rattle.tm_defs.specs.declared.events.Step.TheVariants as step
 use Rattle.tm_forms.specs.declared.script.ScriptStep.{ScriptStep}
-use Rattle.tm_forms.specs.declared.script.ScriptStep.TheVariants.{Core, Show}
+use Rattle.tm_forms.specs.declared.script.ScriptStep.TheVariants.{Core, SettleQuietly, Show}
 use Rattle.tm_forms.specs.declared.script.Scripted.{Scripted}
-use Rattle.tm_machine.specs.Machine.{Rules, Machine, Answer, Edited, Lined, Steps}
+use Rattle.tm_machine.specs.Machine.{Rules, Machine, Answer, Edited, Lined, Forced, Steps}
 use Rattle.tm_machine.specs.Reach.{Stand, stand_in, stand_after, stands_of}
 use Rattle.tm_machine.proofs.ReachedTables.{reaches-more, stands-first, stands-later, stands-more}
 use Rattle.tm_outside.specs.Causes.{Takes, TakesFront}
@@ -35,6 +35,10 @@ pub on_ok : {T E : Type 0} (r : Result T E) (P Q : Type 0) → (P → Q) → OnO
 on_ok (Ok x) P Q f h = f h
 on_ok (Err e) P Q f h = tt
 
+pub if_ok : {T E : Type 0} (r : Result T E) (P Q : T → Type 0) → ((x : T) → P x → Q x) → IfOk r P → IfOk r Q
+if_ok (Ok x) P Q f h = f x h
+if_ok (Err e) P Q f h = tt
+
 pub if_err : {T E : Type 0} (r : Result T E) (P Q : E → Type 0) → ((e : E) → P e → Q e) → IfErr r P → IfErr r Q
 if_err (Ok x) P Q f h = tt
 if_err (Err e) P Q f h = f e h
@@ -58,6 +62,7 @@ past-next m xs i d h s there =
 step-stand : (r : Rules) (m n : Machine) (s : Step) (a : Answer) → Steps r m s a n → stand_in n ≡ stand_after (stand_in m) s
 step-stand r m n (step.Edit c) (Edited version) d = ap stand_in d.2
 step-stand r m n step.Line (Lined turn) d = ap stand_in d.2
+step-stand r m n step.Settle (Forced done blocked) d = ap stand_in d.2
 step-stand r m n _ _ d = absurd d
 
 -- what stood behind a step, and then the steps behind it
@@ -65,6 +70,9 @@ step-first : (r : Rules) (m mid n : Machine) (s : ScriptStep) (xs : List Scripte
 step-first r m mid n (Core s) xs bytes d rest =
     let P : Stand → Type 0 = λ z. Contains (stands_of z (machine_steps xs)) (stand_in n) in
     stands-later (stand_in m) s (machine_steps xs) (stand_in n) (subst P (step-stand r m mid s d.0 d.1) rest)
+step-first r m mid n SettleQuietly xs bytes d rest =
+    let P : Stand → Type 0 = λ z. Contains (stands_of z (machine_steps xs)) (stand_in n) in
+    stands-later (stand_in m) step.Settle (machine_steps xs) (stand_in n) (subst P (step-stand r m mid step.Settle d.0 d.1) rest)
 step-first r m mid n Show xs bytes d rest = let P : Machine → Type 0 = λ z. Contains (stands_of (stand_in z) (machine_steps xs)) (stand_in n) in subst P d.0 rest
 
 -- where a run ends is among what stood

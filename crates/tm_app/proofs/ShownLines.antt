@@ -1,14 +1,15 @@
 -- The lines of a show, one line more.
-use Rattle.std.proofs.Common.{◌≡◌, ℕ, suc, ◌+◌, ◌≤◌, List, ◌∷◌, ◌++◌, drop, get_or, Option, Some, ap, sym, ◌∙◌, append_assoc, add-one, drop-cons, arith}
+use Rattle.std.proofs.Common.{◌≡◌, ℕ, suc, ◌+◌, ◌≤◌, List, ◌∷◌, ◌++◌, drop, get_or, Bool, Option, Some, None, ap, sym, ◌∙◌, append_assoc, add-one, drop-cons, arith}
 use Rattle.std.specs.Prelude.{slice_get}
 use Rattle.std.proofs.lemmas.Option.{slice_get_within, get_or_from_slice_get}
 use Rattle.tm_defs.specs.declared.frames.FrameData.{FrameData}
 use Rattle.tm_machine.specs.declared.entries.Entry.{Entry}
-use Rattle.tm_machine.specs.Entries.{is_accurate}
+use Rattle.tm_machine.specs.Entries.{front, is_accurate}
+use Rattle.tm_machine.proofs.Fronts.{accurate-front, accurate-none}
 use Rattle.tm_outside.specs.Causes.{Takes, TakesFront}
 use Rattle.tm_app.specs.declared.play.Fault.{Fault}
 use Rattle.tm_app.specs.declared.play.Fault.TheVariants.{SinkFault, OutOfMemory, TableFull, BadPlace}
-use Rattle.tm_app.specs.Printed.{line_text, shown_from, shown}
+use Rattle.tm_app.specs.Printed.{line_text, is_before, shown_from, shown}
 use Rattle.tm_app.specs.Stops.{IsWriteStop}
 use Rattle.tm_app.proofs.PlayRuns.{front-after}
 
@@ -32,3 +33,8 @@ show-stops a b c x y z all f0 f g SinkFault e h le s = (front-after a b c x y z 
 show-stops a b c x y z all f0 f g OutOfMemory e h le s = front-after a b c x y z all e h s
 show-stops a b c x y z all f0 f g TableFull e h le s = s
 show-stops a b c x y z all f0 f g (BadPlace line) e h le s = s
+
+-- the lines before the front are the accurate ones
+pub before-front : (es : List (Entry (List FrameData))) (front_of : Option ℕ) (i : ℕ) (b : Bool) → front_of ≡ front es → b ≡ is_before front_of i → b ≡ is_accurate es i
+before-front es None i b at is = is ∙ sym (accurate-none es i (sym at))
+before-front es (Some f) i b at is = is ∙ sym (accurate-front es i f (sym at))

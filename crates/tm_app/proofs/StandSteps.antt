@@ -1,6 +1,6 @@
 -- A step of the model is a step of each machine that it stands for.
 use Rattle.std.specs.Prelude.{Contains}
-use Rattle.std.proofs.Common.{◌≡◌, ℕ, suc, ◌<◌, arith, inl, inr, List, [], ◌∷◌, map, replicate, length, Some, None, refl, ap, sym, ◌∙◌, subst, subst₂}
+use Rattle.std.proofs.Common.{◌≡◌, ℕ, suc, ◌<◌, arith, inl, inr, List, [], ◌∷◌, ◌++◌, ◌-◌, map, replicate, length, Option, Some, None, refl, ap, sym, ◌∙◌, subst, subst₂}
 use Rattle.tm_defs.specs.declared.changes.Change.{Change}
 use Rattle.tm_defs.specs.declared.events.Step.TheVariants as step
 use Rattle.tm_defs.specs.declared.events.Turn.{Turn}
@@ -8,24 +8,24 @@ use Rattle.tm_defs.specs.declared.frames.FrameData.{FrameData}
 use Rattle.tm_defs.specs.Tables.{Tables, TableEntries, GrowsWithin, IsNumbering}
 use Rattle.tm_defs.specs.Tokenizer.{Tokenized}
 use Rattle.tm_forms.specs.declared.script.ScriptStep.{ScriptStep}
-use Rattle.tm_forms.specs.declared.script.ScriptStep.TheVariants.{Core, Show}
+use Rattle.tm_forms.specs.declared.script.ScriptStep.TheVariants.{Core, SettleQuietly, Show}
 use Rattle.tm_forms.specs.declared.script.Scripted.{Scripted}
 use Rattle.tm_machine.specs.declared.entries.Entry.{Entry}
 use Rattle.tm_machine.specs.Changes.{lines_changed, effect_of}
 use Rattle.tm_machine.specs.Entries.{blank, replaced, AreAccurate}
-use Rattle.tm_machine.specs.Machine.{Rules, Machine, Edited, Lined, Turns, edited, machine_of}
+use Rattle.tm_machine.specs.Machine.{Rules, Machine, Edited, Lined, Forced, Turns, Forces, Steps, edited, machine_of}
 use Rattle.tm_machine.specs.Places.{IsIn, bad_place}
 use Rattle.tm_machine.specs.Settings.{rules_of}
 use Rattle.tm_machine.proofs.PlaceTests.{bad_place-some}
 use Rattle.tm_defs.specs.declared.tables.TableFault.TheVariants.{TableFull}
 use Rattle.tm_machine.specs.Entries.{AreRight}
 use Rattle.tm_machine.specs.Machine.{IsReady, opening}
-use Rattle.tm_machine.specs.Reach.{Stand, stand_in, IsWithinReach, ReachesMoreThan}
+use Rattle.tm_machine.specs.Reach.{Stand, stand_in, GrowsByLines, IsWithinReach, ReachesMoreThan}
 use Rattle.tm_machine.specs.Scratch.{Tokenizing}
-use Rattle.tm_machine.proofs.ReachedTables.{within-new, within-more, within-grown, full-reaches}
+use Rattle.tm_machine.proofs.ReachedTables.{within-new, within-more, within-grown, within-lines, full-reaches}
 use Rattle.tm_model.specs.Held.{Held, held_rules, setting_now, changed_model, new_model, GrowsAtFront, IsTurnCause}
 use Rattle.tm_app.specs.Play.{Prints}
-use Rattle.tm_app.specs.Printed.{turn_text, shown}
+use Rattle.tm_app.specs.Printed.{turn_text, work_text, blocked_text, shown}
 use Rattle.tm_app.specs.Stands.{Stands, IsReached, table_limit}
 use Rattle.tm_app.specs.Stops.{IsBadEdit, large_reach}
 
@@ -62,6 +62,43 @@ module _ {T P : Type 0} (plain : T → P) (tokenized : P → List FrameData → 
           entries = refl;
         },
       )
+
+  -- the settle of a model
+  settle-stands : (old new : Held T) (done : ℕ) (blocked : Option ℕ) → new ≡ record old { entries = new.entries; tables = new.tables } →
+      Forces (setting_now plain tokenized plain_cost entries_made old) old.budget old.lines (length old.lines - 1) old.entries done blocked new.entries → (r : Rules) (m : Machine) → S r old m →
+      (n : Machine) × Steps r m step.Settle (Forced done blocked) n × S r new n
+  settle-stands old new done blocked others forces r m s =
+      let n : Machine = record { fore = record (m.fore) { entries = new.entries } } in
+      let Q : Rules → ℕ → List (List ℕ) → List (Entry (List FrameData)) → Type 0 = λ rules epoch lines es. Forces (rules.setting epoch) rules.budget lines (length lines - 1) es done blocked new.entries in
+      let a : Q r old.epoch old.lines old.entries = subst (λ z. Q z old.epoch old.lines old.entries) s.rules forces in
+      let b : Q r m.fore.epoch old.lines old.entries = subst (λ z. Q r z old.lines old.entries) s.epoch a in
+      let c : Q r m.fore.epoch m.fore.text.lines m.fore.entries = subst₂ (λ z w. Q r m.fore.epoch z w) s.lines s.entries b in (
+        n,
+        (new.entries, c, refl),
+        record {
+          rules = ap (held_rules plain tokenized plain_cost entries_made) others ∙ s.rules;
+          lines = ap (λ (h : Held T). h.lines) others ∙ s.lines;
+          version = ap (λ (h : Held T). h.version) others ∙ s.version;
+          epoch = ap (λ (h : Held T). h.epoch) others ∙ s.epoch;
+          entries = refl;
+        },
+      )
+
+  pub settle-prints : (old new : Held T) (x : Scripted) (done : ℕ) (blocked : Option ℕ) → x.step ≡ Core step.Settle → new ≡ record old { entries = new.entries; tables = new.tables } →
+      Forces (setting_now plain tokenized plain_cost entries_made old) old.budget old.lines (length old.lines - 1) old.entries done blocked new.entries → (r : Rules) (m : Machine) → S r old m →
+      (n : Machine) × Prints r m x.step (work_text done ++ blocked_text blocked) n × S r new n
+  settle-prints old new x done blocked is others forces r m s =
+      let so = settle-stands old new done blocked others forces r m s in
+      let P : ScriptStep → Type 0 = λ z. Prints r m z (work_text done ++ blocked_text blocked) so.0 in
+      (so.0, subst P (sym is) (Forced done blocked, so.1, refl), so.2)
+
+  pub quiet-prints : (old new : Held T) (x : Scripted) (done : ℕ) (blocked : Option ℕ) → x.step ≡ SettleQuietly → new ≡ record old { entries = new.entries; tables = new.tables } →
+      Forces (setting_now plain tokenized plain_cost entries_made old) old.budget old.lines (length old.lines - 1) old.entries done blocked new.entries → (r : Rules) (m : Machine) → S r old m →
+      (n : Machine) × Prints r m x.step (blocked_text blocked) n × S r new n
+  quiet-prints old new x done blocked is others forces r m s =
+      let so = settle-stands old new done blocked others forces r m s in
+      let P : ScriptStep → Type 0 = λ z. Prints r m z (blocked_text blocked) so.0 in
+      (so.0, subst P (sym is) (Forced done blocked, so.1, refl), so.2)
 
   -- the change of a model
   pub edit-prints : (old new : Held T) (x : Scripted) (c : Change) → x.step ≡ Core (step.Edit c) → IsIn old.lines c → new ≡ changed_model old c → (r : Rules) (m : Machine) → S r old m → (n : Machine) × Prints r m x.step [] n × S r new n
@@ -136,8 +173,17 @@ module _ {T P : Type 0} (plain : T → P) (tokenized : P → List FrameData → 
           within = within-grown r past (stand_in m) there m.fore.entries right-here old.tables new.tables g.0 g.1 g.2 (ready-here g.0 g.1 g.2 g.3) (subst P setting-is g.4) h.within;
         }
 
+    -- the tables that a settle grows
+    pub lines-reached : (new : Held T) → GrowsByLines (setting_now plain tokenized plain_cost entries_made old) old.lines old.tables new.tables → R r past old → R r past new
+    lines-reached new g h =
+        let P : Tokenizing → List (List ℕ) → Type 0 = λ k lines. GrowsByLines k lines old.tables new.tables in
+        record {
+          limit = g.limit ∙ h.limit;
+          within = within-lines r past (stand_in m) old.tables new.tables there (subst₂ (λ k lines. P k lines) setting-is s.lines g) h.within;
+        }
+
     -- a full table
-    pub full-reached : (new : Held T) (n : ℕ) → IsNumbering new.tables → R r past new → IsTurnCause (setting_now plain tokenized plain_cost entries_made old) old.lines old.entries new.tables (TableFull n) → ReachesMoreThan large_reach r past
-    full-reached new n num h cause =
+    pub full-reached : (new : Held T) (es : List (Entry (List FrameData))) (n : ℕ) → IsNumbering new.tables → R r past new → IsTurnCause (setting_now plain tokenized plain_cost entries_made old) old.lines es new.tables (TableFull n) → ReachesMoreThan large_reach r past
+    full-reached new es n num h cause =
         let lt : large_reach < new.tables.limit = omega (arith, h.limit) in
         full-reaches r past new.tables ((setting_now plain tokenized plain_cost entries_made old).entries_made cause.1 cause.2) n large_reach num h.within lt cause.4

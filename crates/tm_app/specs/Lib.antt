@@ -5,6 +5,7 @@ pub mod Play
 pub mod Printed
 pub mod Reading
 pub mod Report
+pub mod Setup
 pub mod Stands
 pub mod Status
 pub mod Stops

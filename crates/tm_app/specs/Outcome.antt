@@ -1,19 +1,20 @@
 -- How a run ends: each status with its cause, and with what was written by then.
-use Rattle.std.specs.Prelude.{◌≡◌, ◌⊎◌, ℕ, List, [], ◌∷◌, Option, chars}
+use Rattle.std.specs.Prelude.{◌≡◌, ◌⊎◌, ℕ, List, [], ◌∷◌, Option, Some, Bool, true, false, chars}
 use Rattle.tm_forms.specs.declared.script.Scripted.{Scripted}
-use Rattle.tm_literal.specs.Setting.{Setting}
-use Rattle.tm_literal.specs.Tokenizing.{literal_tokenized, literal_cost, literal_made}
+use Rattle.tm_line.specs.Setting.{Setting}
+use Rattle.tm_line.specs.Tokenizing.{rules_tokenized, rules_cost, rules_made}
 use Rattle.tm_machine.specs.Changes.{lines_of}
 use Rattle.tm_machine.specs.Machine.{Rules, Machine, machine_of}
 use Rattle.tm_machine.specs.Settings.{rules_of}
 use Rattle.tm_outside.specs.Causes.{Takes}
+use Rattle.tm_app.specs.Setup.{SetupData}
 use Rattle.tm_app.specs.declared.play.Fault.{Fault}
 use Rattle.tm_app.specs.declared.play.Fault.TheVariants as fault
-use Rattle.tm_app.specs.declared.setup.Setup.{Setup}
 use Rattle.tm_app.specs.declared.status.What.TheVariants.{NotYet, BadPlace}
 use Rattle.tm_app.specs.declared.status.Status.{Status}
-use Rattle.tm_app.specs.declared.status.Status.TheVariants.{Ok, Usage, FileFault, Refused, SinkFault, OutOfMemory, TableFull}
+use Rattle.tm_app.specs.declared.status.Status.TheVariants.{Ok, Usage, FileFault, Refused, SinkFault, OutOfMemory, BudgetSeen, TableFull}
 use Rattle.tm_app.specs.Play.{Plays}
+use Rattle.tm_app.specs.Printed.{tells_blocked}
 use Rattle.tm_app.specs.Reading.{Names, IsCommand, IsLoaded, IsLoadStop}
 use Rattle.tm_app.specs.Stops.{PlayStops}
 
@@ -25,34 +26,32 @@ IsBadPlace script line Ok = ⊥
 IsBadPlace script line Usage = ⊥
 IsBadPlace script line (FileFault name) = ⊥
 IsBadPlace script line SinkFault = ⊥
+IsBadPlace script line BudgetSeen = ⊥
 IsBadPlace script line TableFull = ⊥
 
--- the budget of a line where the settings file names none
-abbrev pub default_budget : ℕ
-default_budget = 100000000
-
 -- grammars make tokens of lines by the line relation
-abbrev pub literal_rules : List Setting → Rules
-literal_rules settings = rules_of literal_tokenized literal_cost literal_made settings default_budget
+abbrev pub grammar_rules : List Setting → (budget : ℕ) → Rules
+grammar_rules settings budget = rules_of rules_tokenized rules_cost rules_made settings budget
 
--- from these lines all steps are done, and what they print is written
-abbrev pub LinesPlay : List Setting → List (List ℕ) → List Scripted → Option (List ℕ) → Option (List ℕ) → Type 0
-LinesPlay settings lines steps taken taken_now = (bytes : List ℕ) × (last : Machine) × Plays (literal_rules settings) (machine_of lines) steps bytes last × Takes taken taken_now bytes
+-- from these lines all steps are done, what they print is written, and it tells of a blocked line or not
+abbrev pub LinesPlay : List Setting → (budget : ℕ) → List (List ℕ) → List Scripted → Option (List ℕ) → Option (List ℕ) → (seen : Bool) → Type 0
+LinesPlay settings budget lines steps taken taken_now seen =
+    (bytes : List ℕ) × (last : Machine) × Plays (grammar_rules settings budget) (machine_of lines) steps bytes last × Takes taken taken_now bytes × (tells_blocked bytes ≡ seen)
 
-abbrev pub LinesStop : List Setting → List (List ℕ) → List Scripted → Option (List ℕ) → Option (List ℕ) → (faults faults_now : ℕ) → Fault → Type 0
-LinesStop settings lines = PlayStops (literal_rules settings) (machine_of lines)
+abbrev pub LinesStop : List Setting → (budget : ℕ) → List (List ℕ) → List Scripted → Option (List ℕ) → Option (List ℕ) → (faults faults_now : ℕ) → Fault → Type 0
+LinesStop settings budget lines = PlayStops (grammar_rules settings budget) (machine_of lines)
 
 -- the run begins with the lines of the text file, and the grammar is setting 0
-abbrev pub SetupPlays : Setup → Option (List ℕ) → Option (List ℕ) → Type 0
-SetupPlays setup = LinesPlay (setup.grammar ∷ []) (lines_of setup.text) setup.script
+abbrev pub SetupPlays : SetupData → Option (List ℕ) → Option (List ℕ) → (seen : Bool) → Type 0
+SetupPlays setup = LinesPlay (setup.grammar ∷ []) setup.budget (lines_of setup.text) setup.script
 
-abbrev pub SetupStops : Setup → Option (List ℕ) → Option (List ℕ) → (faults faults_now : ℕ) → Fault → Type 0
-SetupStops setup = LinesStop (setup.grammar ∷ []) (lines_of setup.text) setup.script
+abbrev pub SetupStops : SetupData → Option (List ℕ) → Option (List ℕ) → (faults faults_now : ℕ) → Fault → Type 0
+SetupStops setup = LinesStop (setup.grammar ∷ []) setup.budget (lines_of setup.text) setup.script
 
 module _ (words : List (List ℕ)) (tells : List ℕ → Option (List ℕ)) (failed failed_now : List (List ℕ)) (taken taken_now : Option (List ℕ)) (faults faults_now : ℕ) where
   -- the files were read, and a step stops
   abbrev pub StopsSetup : (Names → Type 0) → Fault → Type 0
-  StopsSetup named fault = (names : Names) × IsCommand words names × named names × ((setup : Setup) × IsLoaded names tells setup × SetupStops setup taken taken_now faults faults_now fault)
+  StopsSetup named fault = (names : Names) × IsCommand words names × named names × ((setup : SetupData) × IsLoaded names tells setup × SetupStops setup taken taken_now faults faults_now fault)
 
   -- the reading of a file stops, and nothing is written
   abbrev pub StopsLoad : Status → Type 0
@@ -63,10 +62,15 @@ module _ (words : List (List ℕ)) (tells : List ℕ → Option (List ℕ)) (fai
 
   -- a bad place is told of the script
   abbrev pub IsScript : List ℕ → Names → Type 0
-  IsScript name names = name ≡ chars names.script
+  IsScript name names = (script : List ℕ) × (names.script ≡ Some script) × (name ≡ chars script)
+
+  -- all is done, and what is written tells of a blocked line or not
+  abbrev pub IsDone : (seen : Bool) → Type 0
+  IsDone seen = (names : Names) × IsCommand words names × ((setup : SetupData) × IsLoaded names tells setup × SetupPlays setup taken taken_now seen)
 
   abbrev pub Outcome : Status → Type 0
-  Outcome Ok = (names : Names) × IsCommand words names × ((setup : Setup) × IsLoaded names tells setup × SetupPlays setup taken taken_now)
+  Outcome Ok = IsDone false
+  Outcome BudgetSeen = IsDone true
   Outcome Usage = ((names : Names) → ¬ (IsCommand words names)) × Takes taken taken_now []
   Outcome (FileFault name) = StopsLoad (FileFault name)
   Outcome (Refused name NotYet) = StopsLoad (Refused name NotYet)

@@ -1,20 +1,23 @@
 -- What the steps of a script do and print.
 use Rattle.std.specs.Prelude.{◌≡◌, ℕ, List, [], ◌∷◌, ◌++◌}
 use Rattle.tm_defs.specs.declared.events.Step.{Step}
+use Rattle.tm_defs.specs.declared.events.Step.TheVariants.{Settle}
 use Rattle.tm_forms.specs.declared.script.ScriptStep.{ScriptStep}
-use Rattle.tm_forms.specs.declared.script.ScriptStep.TheVariants.{Core, Show}
+use Rattle.tm_forms.specs.declared.script.ScriptStep.TheVariants.{Core, SettleQuietly, Show}
 use Rattle.tm_forms.specs.declared.script.Scripted.{Scripted}
 use Rattle.tm_machine.specs.Machine.{Rules, Machine, Answer, Steps, IsAccurate}
-use Rattle.tm_app.specs.Printed.{answer_text, shown}
+use Rattle.tm_app.specs.Printed.{answer_text, quiet_text, shown}
 
 -- from m a step may print these bytes and lead to n. What a show prints is accurate: each line marked
 -- `=` is what tokenizing the text from its first line gives, and all lines are where none is invalid
 abbrev pub Prints : Rules → Machine → ScriptStep → List ℕ → Machine → Type 0
 Prints r m (Core step) bytes n = (answer : Answer) × Steps r m step answer n × (bytes ≡ answer_text answer)
+Prints r m SettleQuietly bytes n = (answer : Answer) × Steps r m Settle answer n × (bytes ≡ quiet_text answer)
 Prints r m Show bytes n = (n ≡ m) × (bytes ≡ shown m.fore.entries) × IsAccurate r m
 
 abbrev pub step_of : ScriptStep → List Step
 step_of (Core step) = step ∷ []
+step_of SettleQuietly = Settle ∷ []
 step_of Show = []
 
 -- the steps of the machine among those of a script

@@ -1,5 +1,5 @@
 -- How a model stands for the machine of births, which keeps more than the model does.
-use Rattle.std.specs.Prelude.{◌≡◌, ℕ, List, [], ◌∷◌, Option, Contains}
+use Rattle.std.specs.Prelude.{◌≡◌, ℕ, List, [], ◌∷◌, ◌++◌, Bool, ◌||◌, Option, Contains}
 use Rattle.tm_defs.specs.declared.frames.FrameData.{FrameData}
 use Rattle.tm_defs.specs.Tables.{TableEntries}
 use Rattle.tm_defs.specs.Tokenizer.{Tokenized}
@@ -10,7 +10,12 @@ use Rattle.tm_model.specs.Held.{Held, held_rules}
 use Rattle.tm_outside.specs.Causes.{Takes}
 use Rattle.tm_app.specs.declared.play.Fault.{Fault}
 use Rattle.tm_app.specs.Play.{Prints, Plays}
+use Rattle.tm_app.specs.Printed.{tells_blocked}
 use Rattle.tm_app.specs.Stops.{StepStops, PlayStops}
+
+-- whole lines, of which one tells of a blocked line, or none
+abbrev pub Tells : List ℕ → Bool → Type 0
+Tells bytes seen = (rest : List ℕ) → tells_blocked (bytes ++ rest) ≡ (seen || tells_blocked rest)
 
 -- a table of states holds at most this many entries of one kind
 abbrev pub table_limit : ℕ
@@ -31,19 +36,20 @@ module _ {T P : Type 0} (plain : T → P) (tokenized : P → List FrameData → 
     pub within : IsWithinReach r past held.tables
 
   -- whatever machine the model stands for, it takes this step, and what it prints is taken
-  abbrev pub StepDone : Held T → Scripted → Held T → Option (List ℕ) → Option (List ℕ) → Type 0
-  StepDone old x new before now =
+  abbrev pub StepDone : Held T → Scripted → Held T → Option (List ℕ) → Option (List ℕ) → (seen : Bool) → Type 0
+  StepDone old x new before now seen =
       (r : Rules) (m : Machine) (past : List Stand) → Stands r old m → Contains past (stand_in m) → IsReached r past old →
-      (bytes : List ℕ) × (n : Machine) × Prints r m x.step bytes n × Stands r new n × IsReached r past new × Takes before now bytes
+      (bytes : List ℕ) × (n : Machine) × Prints r m x.step bytes n × Stands r new n × IsReached r past new × Takes before now bytes × Tells bytes seen
 
   abbrev pub StepStopped : Held T → Scripted → Option (List ℕ) → Option (List ℕ) → (faults faults_now : ℕ) → Fault → Type 0
   StepStopped old x before now faults faults_now fault =
       (r : Rules) (m : Machine) (past : List Stand) → Stands r old m → Contains past (stand_in m) → IsReached r past old → StepStops r m past x before now faults faults_now fault
 
   -- and so with all steps of a script
-  abbrev pub AllDone : Held T → List Scripted → Option (List ℕ) → Option (List ℕ) → Type 0
-  AllDone old xs before now =
-      (r : Rules) (m : Machine) → Stands r old m → IsReached r (stand_in m ∷ []) old → (bytes : List ℕ) × (n : Machine) × Plays r m xs bytes n × Takes before now bytes
+  abbrev pub AllDone : Held T → List Scripted → Option (List ℕ) → Option (List ℕ) → (seen : Bool) → Type 0
+  AllDone old xs before now seen =
+      (r : Rules) (m : Machine) → Stands r old m → IsReached r (stand_in m ∷ []) old →
+      (bytes : List ℕ) × (n : Machine) × Plays r m xs bytes n × Takes before now bytes × (tells_blocked bytes ≡ seen)
 
   abbrev pub AllStopped : Held T → List Scripted → Option (List ℕ) → Option (List ℕ) → (faults faults_now : ℕ) → Fault → Type 0
   AllStopped old xs before now faults faults_now fault = (r : Rules) (m : Machine) → Stands r old m → IsReached r (stand_in m ∷ []) old → PlayStops r m xs before now faults faults_now fault

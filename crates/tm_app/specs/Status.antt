@@ -20,6 +20,7 @@ status_text (status.FileFault name) = codes "cannot read " ++ encode_utf8_all na
 status_text (status.Refused name what) = codes "refused " ++ encode_utf8_all name ++ (codes ": " ++ what_text what)
 status_text status.SinkFault = codes "cannot write\n"
 status_text status.OutOfMemory = codes "out of memory\n"
+status_text status.BudgetSeen = codes "budget exceeded\n"
 status_text status.TableFull = codes "table full\n"
 
 -- the exit status
@@ -30,4 +31,5 @@ status_code (status.FileFault name) = 3
 status_code (status.Refused name what) = 4
 status_code status.SinkFault = 5
 status_code status.OutOfMemory = 6
+status_code status.BudgetSeen = 7
 status_code status.TableFull = 8

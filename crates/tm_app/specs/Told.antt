@@ -2,7 +2,7 @@
 use Rattle.std.specs.Prelude.{◌≡◌, ℕ, List, [], ◌∷◌, ◌++◌, Option, ⊤, MatchOption, chars}
 use Rattle.tm_app.specs.declared.status.What.TheVariants.{NotYet, BadPlace}
 use Rattle.tm_app.specs.declared.status.Status.{Status}
-use Rattle.tm_app.specs.declared.status.Status.TheVariants.{Ok, Usage, FileFault, Refused, SinkFault, OutOfMemory, TableFull}
+use Rattle.tm_app.specs.declared.status.Status.TheVariants.{Ok, Usage, FileFault, Refused, SinkFault, OutOfMemory, BudgetSeen, TableFull}
 
 -- what holds of the bytes of a file, where they are told
 abbrev pub Told : Option (List ℕ) → (List ℕ → Type 0) → Type 0
@@ -25,4 +25,5 @@ IsFileStop outside old new file OutOfMemory = ⊤
 IsFileStop outside old new file Ok = ⊥
 IsFileStop outside old new file Usage = ⊥
 IsFileStop outside old new file SinkFault = ⊥
+IsFileStop outside old new file BudgetSeen = ⊥
 IsFileStop outside old new file TableFull = ⊥

@@ -8,6 +8,8 @@ pub mod play;
 pub mod printed;
 pub mod reading;
 pub mod report;
+#[cfg(test)]
+mod scan_tests;
 pub mod setup;
 pub mod status;
 #[cfg(test)]

@@ -1,6 +1,6 @@
 //! Printed texts: each is one line with its line break, in ASCII.
 ghost use Rattle.std.specs.Prelude.{◌≡◌, ◌++◌, IfOk, string_bytes, codes, decimal, if◌then◌else◌};
-ghost use Rattle.tm_app.specs.Printed.{turn_text, line_text, token_text, tokens_text};
+ghost use Rattle.tm_app.specs.Printed.{turn_text, work_text, bang_text, line_text, token_text, tokens_text};
 
 use crate::hex;
 use std::alloc::Global;
@@ -15,8 +15,22 @@ pub fn turn_line(alloc: Global, turn: Turn) -> Result<String, OutOfMemory>
     match turn {
         Turn::Done(i) => Ok(format!(in alloc; "line {i}\n")?),
         Turn::Idle => Ok(String::from_str(alloc, "idle\n")?),
-        Turn::Blocked(i) => Ok(format!(in alloc; "! {i}\n")?),
+        Turn::Blocked(i) => bang_line(alloc, i),
     }
+}
+
+/// How many lines were done.
+pub fn work_line(alloc: Global, done: u32) -> Result<String, OutOfMemory>
+    ensures { IfOk result (λ text. string_bytes text ≡ work_text done) }
+{
+    Ok(format!(in alloc; "work {done}\n")?)
+}
+
+/// A line that costs more than the budget.
+pub fn bang_line(alloc: Global, i: u32) -> Result<String, OutOfMemory>
+    ensures { IfOk result (λ text. string_bytes text ≡ bang_text i) }
+{
+    Ok(format!(in alloc; "! {i}\n")?)
 }
 
 /// The line that a show prints of what is kept of line i.

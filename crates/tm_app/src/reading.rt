@@ -11,7 +11,7 @@ use tm_outside::files::{Files, ReadFault};
 /// Reads a file whole, and parses it. A fault of reading comes only where this call added the file's
 /// name to those that failed, and a refusal exactly where its bytes are not of the form.
 pub fn load<F: Files, X: Form + Drop>(alloc: Global, files: &mut F, name: &str) -> Result<X, Status>
-    ensures ok { IfOk result (λ found. Told (F.bytes files.old name.now) (λ told. X.form told ≡ Some found)) }
+    ensures ok { IfOk result (λ found. Told (F.bytes files.old name.now) (λ told. X.form told ≡ Some (X.plain found))) }
     ensures err { IfErr result (IsFileStop (Told (F.bytes files.old name.now) (λ told. X.form told ≡ None)) (F.failed files.old) (F.failed files.new) name.now) }
     ensures grows { HasGrown (F.failed files.old) (F.failed files.new) }
     ensures kept { (other : List ℕ) → F.bytes files.new other ≡ F.bytes files.old other }

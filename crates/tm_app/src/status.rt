@@ -28,6 +28,8 @@ pub enum Status {
     /// The output could not be written.
     SinkFault,
     OutOfMemory,
+    /// All is done, and a line cost more than the budget.
+    BudgetSeen,
     /// A table of states is full.
     TableFull,
 }
@@ -101,13 +103,15 @@ pub fn status_line(alloc: Global, status: &Status) -> Result<String, OutOfMemory
         }
         Status::SinkFault => Ok(String::from_str(alloc, "cannot write\n")?),
         Status::OutOfMemory => Ok(String::from_str(alloc, "out of memory\n")?),
+        Status::BudgetSeen => Ok(String::from_str(alloc, "budget exceeded\n")?),
         Status::TableFull => Ok(String::from_str(alloc, "table full\n")?),
     }
 }
 
 impl Status {
     /// The exit status: 0, 2 (usage), 3 (a file could not be read), 4 (a file is refused), 5 (the
-    /// output could not be written), 6 (want of memory) or 8 (a table is full).
+    /// output could not be written), 6 (want of memory), 7 (a line cost more than the budget) or 8 (a
+    /// table is full).
     pub fn code(&self) -> u8
         ensures { result ≡ status_code self.now }
     {
@@ -118,6 +122,7 @@ impl Status {
             Status::Refused(_, _) => 4,
             Status::SinkFault => 5,
             Status::OutOfMemory => 6,
+            Status::BudgetSeen => 7,
             Status::TableFull => 8,
         }
     }

@@ -11,7 +11,7 @@ use tm_outside::honest::HonestSink;
 use tm_outside::memory::{MemFiles, MemSink};
 use tm_outside::sink::Sink;
 
-const SETTINGS: &str = r#"{"settings":[{"grammar":"g"}]}"#;
+pub(crate) const SETTINGS: &str = r#"{"settings":[{"grammar":"g"}]}"#;
 
 const WORDS: &str = r#"{"scopeName":"source.t","patterns":[
  {"match":"let","name":"keyword.t"},
@@ -23,7 +23,7 @@ const NESTED: &str = r#"{"scopeName":"source.t","patterns":[
   {"match":"s","name":"string.t"},
   {"begin":"r","end":"p","name":"meta.embedded.t"}]}]}"#;
 
-fn list(alloc: Global, texts: &[&str]) -> Result<Vec<String>, Fail> {
+pub(crate) fn list(alloc: Global, texts: &[&str]) -> Result<Vec<String>, Fail> {
     let mut list = Vec::new(alloc);
     for text in texts {
         list.push(String::from_str(alloc, text)?)?;
@@ -32,7 +32,7 @@ fn list(alloc: Global, texts: &[&str]) -> Result<Vec<String>, Fail> {
 }
 
 /// The files `s`, `g`, `t` and `e`: settings, grammar, text and script.
-fn files_of(alloc: Global, texts: [&str; 4], failing: &[u32]) -> Result<MemFiles, Fail> {
+pub(crate) fn files_of(alloc: Global, texts: [&str; 4], failing: &[u32]) -> Result<MemFiles, Fail> {
     let mut files = Vec::new(alloc);
     for (name, text) in ["s", "g", "t", "e"].into_iter().zip(texts) {
         let mut bytes = Vec::new(alloc);
@@ -95,12 +95,21 @@ fn all_is_done(rt: HostRuntime) -> Result<(), Fail> {
 fn scripts_print(rt: HostRuntime) -> Result<(), Fail> {
     let alloc = rt.alloc();
     let line = r#"{"step":"line"}"#;
-    let rows: [(&str, &str, &str, &str, u8, &str); 10] = [
+    let rows: [(&str, &str, &str, &str, u8, &str); 11] = [
         (
             WORDS,
             "let x let",
             "{\"step\":\"show\"}\n{\"step\":\"line\"}\n{\"step\":\"show\"}\n{\"step\":\"line\"}",
             "? 0\nline 0\n= 0 0:02008401 4:02008501 5:02008401\nidle\n",
+            0,
+            "",
+        ),
+        // all lines at once, and no line twice
+        (
+            NESTED,
+            "q\nlet\np\nlet",
+            "{\"step\":\"line\"}\n{\"step\":\"settle\"}\n{\"step\":\"settle\"}\n{\"step\":\"edit\",\"at\":[0,0,0,1],\"text\":\"x\"}\n{\"step\":\"settle\"}\n{\"step\":\"show\"}",
+            "line 0\nwork 3\nwork 0\nwork 3\n= 0 0:02008401\n= 1 0:02008401\n= 2 0:02008401\n= 3 0:02008401\n",
             0,
             "",
         ),
@@ -179,7 +188,7 @@ fn scripts_print(rt: HostRuntime) -> Result<(), Fail> {
 #[test]
 fn other_forms_are_refused(rt: HostRuntime) -> Result<(), Fail> {
     let alloc = rt.alloc();
-    let rows: [([&str; 4], &str); 14] = [
+    let rows: [([&str; 4], &str); 15] = [
         (["", "", "\t", ""], "refused s: NotYet\n"),
         (["{}", WORDS, "x", ""], "refused s: NotYet\n"),
         (
@@ -188,7 +197,7 @@ fn other_forms_are_refused(rt: HostRuntime) -> Result<(), Fail> {
         ),
         (
             [
-                r#"{"settings":[{"grammar":"g"}],"budget":1000}"#,
+                r#"{"settings":[{"grammar":"g"}],"budget":999}"#,
                 WORDS,
                 "x",
                 "",
@@ -208,7 +217,7 @@ fn other_forms_are_refused(rt: HostRuntime) -> Result<(), Fail> {
         (
             [
                 SETTINGS,
-                r#"{"scopeName":"a","patterns":[{"match":"a+"}]}"#,
+                r#"{"scopeName":"a","patterns":[{"match":"a*"}]}"#,
                 "x",
                 "",
             ],
@@ -218,6 +227,15 @@ fn other_forms_are_refused(rt: HostRuntime) -> Result<(), Fail> {
             [
                 SETTINGS,
                 r#"{"scopeName":"a","patterns":[{"match":""}]}"#,
+                "x",
+                "",
+            ],
+            "refused g: NotYet\n",
+        ),
+        (
+            [
+                SETTINGS,
+                r#"{"scopeName":"a","patterns":[{"match":"(?i)a"}]}"#,
                 "x",
                 "",
             ],
@@ -306,7 +324,7 @@ fn words_choose_the_command(rt: HostRuntime) -> Result<(), Fail> {
     let alloc = rt.alloc();
     let usage =
         "usage: tm_prog scan SETTINGS FILE, replay SETTINGS FILE SCRIPT, live SETTINGS FILE SCRIPT, lint SETTINGS, gen N\n";
-    let rows: [(&[&str], u8, &str); 8] = [
+    let rows: [(&[&str], u8, &str); 12] = [
         (&["replay", "s", "t", "e"], 0, ""),
         (&[], 2, usage),
         (&["replay"], 2, usage),
@@ -315,6 +333,10 @@ fn words_choose_the_command(rt: HostRuntime) -> Result<(), Fail> {
         (&["Replay", "s", "t", "e"], 2, usage),
         (&["replay", "no", "t", "e"], 3, "cannot read no\n"),
         (&["replay", "s", "no", "e"], 3, "cannot read no\n"),
+        (&["scan", "s"], 2, usage),
+        (&["scan", "s", "t", "e"], 2, usage),
+        (&["Scan", "s", "t"], 2, usage),
+        (&["scan", "s", "no"], 3, "cannot read no\n"),
     ];
     for (words, code, told) in rows {
         let mut files = files_of(alloc, [SETTINGS, WORDS, "x", "{\"step\":\"line\"}"], &[])?;

@@ -1,5 +1,5 @@
 -- The steps that a script is read as are built.
-use Rattle.std.proofs.Common.{◌≡◌, ℕ, ◌+◌, Bool, true, false, cond, List, [], ◌∷◌, Option, Some, None, refl, ap, sym, ◌∙◌, subst}
+use Rattle.std.proofs.Common.{◌≡◌, ℕ, ◌+◌, Bool, true, false, cond, List, [], ◌∷◌, Option, Some, None, refl, ap, sym, subst}
 use Rattle.std.specs.Prelude.{option_map, option_and_then, codes}
 use Rattle.std.specs.List.{list_all}
 use Rattle.std.specs.Str.{bytes_eq}
@@ -8,13 +8,12 @@ use Rattle.serde_json.specs.Data.{Data}
 use Rattle.serde_json.specs.Read.{read}
 use Rattle.serde_json.specs.Find.{get, as_str}
 use Rattle.tm_defs.specs.declared.changes.Change.{Change}
-use Rattle.tm_defs.specs.declared.events.Step.TheVariants.{Edit, Line}
+use Rattle.tm_defs.specs.declared.events.Step.TheVariants.{Edit, Line, Settle}
 use Rattle.tm_forms.specs.declared.script.ScriptStep.{ScriptStep}
 use Rattle.tm_forms.specs.declared.script.ScriptStep.TheVariants.{Core, Show}
 use Rattle.tm_forms.specs.declared.script.Scripted.{Scripted}
 use Rattle.tm_forms.specs.Edits.{change_of}
 use Rattle.tm_forms.specs.Script.{show_of, step_named, step_of, step_in, is_blank, steps_from, is_built_step, is_built}
-use Rattle.tm_forms.specs.Json.{has_key}
 
 -- none, or a step that is built
 abbrev IsBuiltIn : Option ScriptStep → Type 0
@@ -34,6 +33,9 @@ edit-built (Some change) = λ s e. let same : Core (Edit change) ≡ s = cc in a
 line-built : IsBuiltIn (Some (Core Line))
 line-built s e = let same : Core Line ≡ s = cc in ap is_built_step (sym same)
 
+settle-built : IsBuiltIn (Some (Core Settle))
+settle-built s e = let same : Core Settle ≡ s = cc in ap is_built_step (sym same)
+
 show-built : IsBuiltIn (Some Show)
 show-built s e = let same : Show ≡ s = cc in ap is_built_step (sym same)
 
@@ -41,7 +43,8 @@ named-built : (d : Data) (word : List ℕ) → IsBuiltIn (step_named d word)
 named-built d word =
     either-built (bytes_eq word (codes "edit")) (option_map (λ change. Core (Edit change)) (change_of d)) _ (edit-built (change_of d))
     (either-built (bytes_eq word (codes "line")) (Some (Core Line)) _ line-built
-    (either-built (bytes_eq word (codes "show")) (show_of d) None (either-built _ None (Some Show) none-built show-built) none-built))
+    (either-built (bytes_eq word (codes "settle")) (Some (Core Settle)) _ settle-built
+    (either-built (bytes_eq word (codes "show")) (show_of d) None (either-built _ None (Some Show) none-built show-built) none-built)))
 
 then-built : {X : Type 0} (f : X → Option ScriptStep) (o : Option X) → ((x : X) → IsBuiltIn (f x)) → IsBuiltIn (option_and_then f o)
 then-built f None h = none-built

@@ -9,7 +9,7 @@ use Rattle.serde_json.specs.Data.{Data, null, boolean, number, string, array, ob
 use Rattle.serde_json.specs.Find.{get, get_member, as_array}
 use Rattle.serde_json.specs.Read.{read, max_depth}
 use Rattle.serde_json.proofs.Nesting.{depth-read}
-use Rattle.tm_literal.specs.declared.rules.Rule.{Rule}
+use Rattle.tm_line.specs.Rules.{Rule}
 use Rattle.tm_forms.specs.Json.{has_key}
 use Rattle.tm_forms.specs.Rules.{Listed, listed, with_first, patterns_from, rules_at, match_of, begin_of, deepest}
 use Rattle.tm_forms.specs.Grammar.{patterns_within, patterns_of}

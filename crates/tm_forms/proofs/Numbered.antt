@@ -4,9 +4,8 @@ use Rattle.std.proofs.lemmas.List.{append-nil}
 use Rattle.std.specs.Prelude.{option_map, option_and_then, codes, slice_get}
 use Rattle.serde_json.specs.Data.{Data, Items, no_items, item}
 use Rattle.serde_json.specs.Find.{get, as_array}
-use Rattle.tm_literal.specs.declared.rules.Rule.{Rule}
-use Rattle.tm_literal.specs.declared.rules.Rule.TheVariants.{Only}
-use Rattle.tm_literal.specs.Setting.{Setting}
+use Rattle.tm_line.specs.Rules.{Rule, Only}
+use Rattle.tm_line.specs.Setting.{Setting}
 use Rattle.tm_forms.specs.Json.{has_key}
 use Rattle.tm_forms.specs.Rules.{Listed, none_listed, listed, with_first, patterns_from, patterns_inside, rules_at, match_of, begin_of, deepest}
 use Rattle.tm_forms.specs.Grammar.{grammar_of, grammar_with, patterns_of, scope_of}

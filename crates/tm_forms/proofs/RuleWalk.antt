@@ -6,7 +6,7 @@ use Rattle.serde_json.specs.View.{view, items_view}
 use Rattle.serde_json.specs.declared.value.Value.{Value}
 use Rattle.tm_forms.specs.Json.{has_key}
 use Rattle.tm_forms.specs.Rules.{Listed, listed, with_first, patterns_inside, rules_at, match_of, begin_of}
-use Rattle.tm_literal.specs.declared.rules.Rule.{Rule}
+use Rattle.tm_line.specs.Rules.{Rule}
 
 pub if_ok : {T E : Type 0} (r : Result T E) (P Q : T → Type 0) → ((x : T) → P x → Q x) → IfOk r P → IfOk r Q
 if_ok (Ok x) P Q f h = f x h

@@ -1,11 +1,11 @@
--- The grammar file, in the form that is built: literal patterns in match and begin/end rules, after the keys of
--- TextMate 1.x (manual, Language Grammars).
+-- The grammar file, in the form that is built: match and begin/end rules, after the keys of TextMate 1.x (manual,
+-- Language Grammars).
 use Rattle.std.specs.Prelude.{◌≡◌, ℕ, ◌≤◌, Some, List, ◌∷◌, Option, None, option_map, option_and_then, codes, nat_eq, if◌then◌else◌}
 use Rattle.serde_json.specs.Data.{Data}
 use Rattle.serde_json.specs.Read.{read}
 use Rattle.serde_json.specs.Find.{get, as_array}
-use Rattle.tm_literal.specs.declared.rules.Rule.TheVariants.{Only}
-use Rattle.tm_literal.specs.Setting.{Setting, setting_of}
+use Rattle.tm_line.specs.Rules.{Only}
+use Rattle.tm_line.specs.Setting.{Setting, setting_of}
 use Rattle.tm_forms.specs.Json.{member_count, json_in}
 use Rattle.tm_forms.specs.Letters.{scope_name_of}
 use Rattle.tm_forms.specs.Rules.{Listed, listed, rules_at, deepest}

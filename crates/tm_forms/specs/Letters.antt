@@ -1,8 +1,8 @@
--- The texts of a grammar: patterns and scope names. They are ASCII, so their bytes are their characters.
+-- The scope names of a grammar. They are ASCII, so their bytes are their characters.
 use Rattle.std.specs.Prelude.{ℕ, List, length, Bool, if◌then◌else◌, ◌&&◌, ◌||◌, nat_le, nat_lt, nat_eq, Option, Some, None, option_and_then}
 use Rattle.std.specs.List.{list_all}
 use Rattle.serde_json.specs.Data.{Data}
-use Rattle.serde_json.specs.Find.{get, as_str}
+use Rattle.serde_json.specs.Find.{as_str}
 
 -- `a` to `z`
 abbrev pub is_letter : ℕ → Bool
@@ -15,10 +15,6 @@ is_letter_or_dot c = is_letter c || nat_eq c 46
 -- a text of one or more such characters
 abbrev pub text_of_only : (ℕ → Bool) → List ℕ → Option (List ℕ)
 text_of_only is_allowed text = if nat_lt 0 (length text) && list_all is_allowed text then Some text else None
-
--- the pattern at a key: one or more lower-case letters
-abbrev pub pattern_at : List ℕ → Data → Option (List ℕ)
-pattern_at key d = option_and_then (text_of_only is_letter) (option_and_then as_str (get key d))
 
 -- a scope name: one or more lower-case letters and dots
 abbrev pub scope_name_of : Data → Option (List ℕ)

@@ -3,6 +3,7 @@ pub mod Grammar
 pub mod Json
 pub mod Letters
 pub mod Numbering
+pub mod Patterns
 pub mod Rules
 pub mod Script
 pub mod Settings

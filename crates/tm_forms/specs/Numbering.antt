@@ -2,9 +2,8 @@
 use Rattle.std.specs.Prelude.{◌≡◌, ◌⊎◌, ℕ, zero, suc, List, [], ◌∷◌, Option, Some, None, option_and_then, codes, slice_get, ⊤}
 use Rattle.serde_json.specs.Data.{Data, Items, no_items, item}
 use Rattle.serde_json.specs.Find.{get, as_array}
-use Rattle.tm_literal.specs.declared.rules.Rule.{Rule}
-use Rattle.tm_literal.specs.declared.rules.Rule.TheVariants.{Only}
-use Rattle.tm_literal.specs.Setting.{Setting}
+use Rattle.tm_line.specs.Rules.{Rule, Only}
+use Rattle.tm_line.specs.Setting.{Setting}
 use Rattle.tm_forms.specs.Rules.{match_of, begin_of, deepest}
 use Rattle.tm_forms.specs.Grammar.{grammar_of}
 

@@ -3,10 +3,11 @@ use Rattle.std.specs.Prelude.{ℕ, zero, suc, ◌+◌, List, [], ◌∷◌, ◌+
 use Rattle.std.specs.declared.alloc.Global.{Global}
 use Rattle.serde_json.specs.Data.{Data, Items, no_items, item}
 use Rattle.serde_json.specs.Find.{get, as_array}
-use Rattle.tm_literal.specs.declared.rules.Rule.{Rule}
-use Rattle.tm_literal.specs.declared.rules.Rule.TheVariants.{Match, BeginEnd}
+use Rattle.tm_line.specs.declared.rules.Rule as code
+use Rattle.tm_line.specs.Rules.{Rule, Match, BeginEnd, rules_data}
 use Rattle.tm_forms.specs.Json.{member_count, has_key}
-use Rattle.tm_forms.specs.Letters.{pattern_at, scope_name_of}
+use Rattle.tm_forms.specs.Letters.{scope_name_of}
+use Rattle.tm_forms.specs.Patterns.{pattern_at}
 
 -- a name may be absent; one that is no scope name is not of the form
 abbrev pub name_from : Option Data → Option (Option (List ℕ))
@@ -68,5 +69,5 @@ rules_at (suc levels) n d = if has_key (codes "match") d
 abbrev pub deepest : ℕ
 deepest = 128
 
-abbrev pub listed_of : Vec ℕ Global → Vec Rule Global → Listed
-listed_of numbers rules = record { numbers = numbers.items; rules = rules.items }
+abbrev pub listed_of : Vec ℕ Global → Vec code.Rule Global → Listed
+listed_of numbers rules = record { numbers = numbers.items; rules = rules_data rules.items }

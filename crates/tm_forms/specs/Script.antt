@@ -5,9 +5,9 @@ use Rattle.std.specs.Str.{bytes_eq}
 use Rattle.serde_json.specs.Data.{Data}
 use Rattle.serde_json.specs.Read.{read}
 use Rattle.serde_json.specs.Find.{get, as_str}
-use Rattle.tm_defs.specs.declared.events.Step.TheVariants.{Edit, Line}
+use Rattle.tm_defs.specs.declared.events.Step.TheVariants.{Edit, Line, Settle}
 use Rattle.tm_forms.specs.declared.script.ScriptStep.{ScriptStep}
-use Rattle.tm_forms.specs.declared.script.ScriptStep.TheVariants.{Core, Show}
+use Rattle.tm_forms.specs.declared.script.ScriptStep.TheVariants.{Core, SettleQuietly, Show}
 use Rattle.tm_forms.specs.declared.script.Scripted.{Scripted}
 use Rattle.tm_forms.specs.Edits.{change_of}
 use Rattle.tm_forms.specs.Text.{greatest_length}
@@ -22,7 +22,8 @@ show_of d = if has_key (codes "from") d || has_key (codes "to") d then None else
 abbrev pub step_named : Data → List ℕ → Option ScriptStep
 step_named d word = if bytes_eq word (codes "edit") then option_map (λ change. Core (Edit change)) (change_of d)
     else (if bytes_eq word (codes "line") then Some (Core Line)
-    else (if bytes_eq word (codes "show") then show_of d else None))
+    else (if bytes_eq word (codes "settle") then Some (Core Settle)
+    else (if bytes_eq word (codes "show") then show_of d else None)))
 
 abbrev pub step_of : Data → Option ScriptStep
 step_of d = option_and_then (step_named d) (option_and_then as_str (get (codes "step") d))
@@ -34,11 +35,17 @@ step_in line = option_and_then step_of (read line)
 abbrev pub is_built_step : ScriptStep → Bool
 is_built_step (Core (Edit change)) = true
 is_built_step (Core Line) = true
+is_built_step (Core Settle) = true
 is_built_step (Core _) = false
+is_built_step SettleQuietly = true
 is_built_step Show = true
 
 abbrev pub is_built : Scripted → Bool
 is_built x = is_built_step x.step
+
+-- the steps of a scan
+abbrev pub scan_steps : List Scripted
+scan_steps = record { line = 0; step = SettleQuietly } ∷ record { line = 1; step = Show } ∷ []
 
 -- a space, a tab or a carriage return
 abbrev pub is_blank : ℕ → Bool

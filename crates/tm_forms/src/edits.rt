@@ -20,7 +20,8 @@ fn length_of(value: &Value) -> usize
     }
 }
 
-fn whole_number(value: &Value) -> Option<u32>
+/// A whole number below 2^32.
+pub fn whole_number(value: &Value) -> Option<u32>
     ensures { result ≡ whole_number_of (view value.now) }
 {
     match value.as_u64() {

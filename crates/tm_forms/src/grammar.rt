@@ -2,6 +2,8 @@
 //! that the numbers mean what the file says, and that no grammar nests too deep for the walk.
 ghost use Rattle.std.specs.Prelude.{◌≡◌, ◌∷◌, option_map, option_and_then, IfOk};
 ghost use Rattle.serde_json.specs.View.{view};
+ghost use Rattle.tm_line.specs.Rules.{Only, rules_data};
+ghost use Rattle.tm_line.specs.Setting.{setting_data};
 ghost use Rattle.tm_forms.specs.Grammar.{grammar_in, grammar_of, scope_of, patterns_of, HasLevelsEnough};
 ghost use Rattle.tm_forms.specs.Numbering.{AreWellNumbered};
 ghost use Rattle.tm_forms.specs.Rules.{listed_of};
@@ -15,8 +17,8 @@ use std::marker::Model;
 use tm_defs::memory::OutOfMemory;
 use tm_defs::rules::Numbers;
 use tm_defs::texts::Name;
-use tm_literal::rules::Rule;
-use tm_literal::tokenizer::Literal;
+use tm_line::rules::Rule;
+use tm_line::tokenizer::Setting;
 
 /// A grammar: its scope, and its rules by number. Rule 0 is the root, which lists the grammar's
 /// patterns; the others follow in the order of the file, each before those inside it.
@@ -27,16 +29,21 @@ pub struct Grammar {
 }
 
 impl Model for Grammar {
+    ghost use Rattle.std.specs.Coded.{codes};
     ghost use Rattle.std.specs.Prelude.{IsTrue};
     ghost use Rattle.std.specs.List.{list_all};
-    ghost use Rattle.tm_literal.specs.Setting.{Setting, setting_of};
-    ghost use Rattle.tm_literal.specs.Forward.{has_text};
+    ghost use Rattle.tm_onig_class.specs.contracts.patterns.Pattern as pattern;
+    ghost use Rattle.tm_line.specs.Advancing.{advances};
+    ghost use Rattle.tm_line.specs.Rules.{rules_data};
+    ghost use Rattle.tm_line.specs.Setting.{BuiltSetting};
 
-    ghost Value = { Setting };
+    ghost Value = { BuiltSetting };
 
-    ghost view = { λ a. setting_of a.scope a.rules.items };
+    ghost coded = { Prim.hlevel (codes, pattern.the_row.coded) };
 
-    ghost invariant = { λ a. IsTrue (list_all has_text a.rules.items) };
+    ghost view = { λ a. record { scope = a.scope; rules = a.rules.items } };
+
+    ghost invariant = { λ a. IsTrue (list_all advances (rules_data a.rules.items)) };
 }
 
 impl Grammar {
@@ -55,10 +62,10 @@ impl Grammar {
     }
 
     /// The tokenizer of this grammar.
-    pub fn into_literal(self, alloc: Global) -> Literal
-        ensures { result ≡ self }
+    pub fn into_setting(self, alloc: Global) -> Setting
+        ensures { setting_data result ≡ setting_data self }
     {
-        Literal::new(alloc, self.scope, self.rules)
+        Setting::build(alloc, self.scope, self.rules)
     }
 }
 
@@ -82,7 +89,7 @@ fn patterns_in(alloc: Global, value: &Value) -> Result<Option<Inside>, OutOfMemo
 
 /// The rules with the root before them.
 fn with_root(alloc: Global, inside: Inside) -> Result<Vec<Rule>, OutOfMemory>
-    ensures { IfOk result (λ rules. rules.items ≡ Rule.Only inside.numbers.items ∷ inside.rules.items) }
+    ensures { IfOk result (λ rules. rules_data rules.items ≡ Only inside.numbers.items ∷ rules_data inside.rules.items) }
 {
     let Inside { numbers, mut rules } = inside;
     let mut all = Vec::new(alloc);
@@ -94,7 +101,7 @@ fn with_root(alloc: Global, inside: Inside) -> Result<Vec<Rule>, OutOfMemory>
 }
 
 fn grammar_from(alloc: Global, value: &Value) -> Result<Option<Grammar>, OutOfMemory>
-    ensures { IfOk result (λ found. found ≡ grammar_of (view value.now)) }
+    ensures { IfOk result (λ found. option_map setting_data found ≡ grammar_of (view value.now)) }
 {
     if json::size_of(value) != 2 {
         return Ok(None);
@@ -110,6 +117,12 @@ fn grammar_from(alloc: Global, value: &Value) -> Result<Option<Grammar>, OutOfMe
 }
 
 impl Form for Grammar {
+    ghost use Rattle.tm_line.specs.Setting.{Setting, setting_data};
+
+    ghost Plain = { Setting };
+
+    ghost plain = { setting_data };
+
     ghost form = { grammar_in };
 
     fn read(alloc: Global, bytes: &[u8]) -> Result<Option<Self>, OutOfMemory> {

@@ -1,8 +1,8 @@
-//! The texts of a grammar: patterns of lower-case letters, and scope names.
+//! The scope names of a grammar.
 ghost use Rattle.std.specs.Prelude.{◌≡◌, option_map, option_and_then, IfOk};
 ghost use Rattle.std.specs.List.{list_all};
 ghost use Rattle.serde_json.specs.View.{view};
-ghost use Rattle.tm_forms.specs.Letters.{is_letter, is_letter_or_dot, text_of_only, pattern_at, scope_name_of};
+ghost use Rattle.tm_forms.specs.Letters.{is_letter, is_letter_or_dot, text_of_only, scope_name_of};
 
 use serde_json::Value;
 use std::alloc::Global;
@@ -21,26 +21,10 @@ fn letter_or_dot(byte: u8) -> bool
     letter(byte) || byte == b'.'
 }
 
-fn all_letters(text: &[u8]) -> bool
-    ensures { result ≡ list_all is_letter text.now }
-{
-    text.iter().all(|byte| letter(*byte))
-}
-
 fn all_letters_or_dots(text: &[u8]) -> bool
     ensures { result ≡ list_all is_letter_or_dot text.now }
 {
     text.iter().all(|byte| letter_or_dot(*byte))
-}
-
-fn letters(text: &str) -> Option<&str>
-    ensures { option_map (λ s. s.now) result ≡ text_of_only is_letter text.now }
-{
-    if text.len() > 0 && all_letters(text.as_bytes()) {
-        Some(text)
-    } else {
-        None
-    }
 }
 
 fn letters_or_dots(text: &str) -> Option<&str>
@@ -74,16 +58,6 @@ fn name_of(alloc: Global, text: Option<&str>) -> Result<Option<Name>, OutOfMemor
         }
         None => Ok(None),
     }
-}
-
-/// The pattern at a key: one or more lower-case letters.
-pub fn pattern_in(alloc: Global, value: &Value, key: &str) -> Result<Option<Name>, OutOfMemory>
-    ensures { IfOk result (λ pattern. pattern ≡ pattern_at key.now (view value.now)) }
-{
-    name_of(
-        alloc,
-        value.get(key).and_then(Value::as_str).and_then(letters),
-    )
 }
 
 /// The scope name that a value is: one or more lower-case letters and dots.

@@ -9,6 +9,7 @@ pub mod form;
 pub mod grammar;
 mod json;
 mod letters;
+mod patterns;
 mod rules;
 pub mod script;
 pub mod settings;

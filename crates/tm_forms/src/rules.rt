@@ -5,15 +5,16 @@
 //! 2, and the last 3. A number that leaves a `u32` is want of memory.
 ghost use Rattle.std.specs.Prelude.{◌≡◌, ◌+◌, ◌≤◌, ◌∷◌, [], IfOk, IfSome, option_map};
 ghost use Rattle.serde_json.specs.View.{view, items_view};
+ghost use Rattle.tm_line.specs.Rules.{rule_data, rules_data};
 ghost use Rattle.tm_forms.specs.Rules.{name_in, match_of, begin_of, rules_at, patterns_inside, listed, one_if, listed_of};
 
-use crate::{json, letters};
+use crate::{json, letters, patterns};
 use serde_json::Value;
 use std::alloc::Global;
 use tm_defs::memory::OutOfMemory;
 use tm_defs::rules::Numbers;
 use tm_defs::texts::Name;
-use tm_literal::rules::Rule;
+use tm_line::rules::Rule;
 
 /// The name, which may be absent; nothing where it is no scope name.
 fn name_of(alloc: Global, value: &Value) -> Result<Option<Option<Name>>, OutOfMemory>
@@ -28,7 +29,8 @@ fn name_of(alloc: Global, value: &Value) -> Result<Option<Option<Name>>, OutOfMe
     }
 }
 
-fn count_of(present: bool) -> usize
+/// How many members an object has for a key that it may have.
+pub fn count_of(present: bool) -> usize
     ensures value { result ≡ one_if present }
     ensures small { result ≤ 1 }
 {
@@ -37,7 +39,7 @@ fn count_of(present: bool) -> usize
 
 /// A rule with `match`.
 fn match_in(alloc: Global, value: &Value) -> Result<Option<Rule>, OutOfMemory>
-    ensures { IfOk result (λ rule. rule ≡ match_of (view value.now)) }
+    ensures { IfOk result (λ rule. option_map rule_data rule ≡ match_of (view value.now)) }
 {
     if json::size_of(value) != 1 + count_of(json::has(value, "name")) {
         return Ok(None);
@@ -45,7 +47,7 @@ fn match_in(alloc: Global, value: &Value) -> Result<Option<Rule>, OutOfMemory>
     let Some(name) = name_of(alloc, value)? else {
         return Ok(None);
     };
-    let Some(pattern) = letters::pattern_in(alloc, value, "match")? else {
+    let Some(pattern) = patterns::pattern_in(alloc, value, "match")? else {
         return Ok(None);
     };
     Ok(Some(Rule::Match { pattern, name }))
@@ -53,7 +55,7 @@ fn match_in(alloc: Global, value: &Value) -> Result<Option<Rule>, OutOfMemory>
 
 /// A rule with `begin` and `end`, and the rules of these numbers inside it.
 fn begin_in(alloc: Global, value: &Value, patterns: Numbers) -> Result<Option<Rule>, OutOfMemory>
-    ensures { IfOk result (λ rule. rule ≡ begin_of patterns (view value.now)) }
+    ensures { IfOk result (λ rule. option_map rule_data rule ≡ begin_of patterns (view value.now)) }
 {
     if json::size_of(value)
         != 2 + count_of(json::has(value, "name")) + count_of(json::has(value, "patterns"))
@@ -63,10 +65,10 @@ fn begin_in(alloc: Global, value: &Value, patterns: Numbers) -> Result<Option<Ru
     let Some(name) = name_of(alloc, value)? else {
         return Ok(None);
     };
-    let Some(begin) = letters::pattern_in(alloc, value, "begin")? else {
+    let Some(begin) = patterns::pattern_in(alloc, value, "begin")? else {
         return Ok(None);
     };
-    let Some(end) = letters::pattern_in(alloc, value, "end")? else {
+    let Some(end) = patterns::pattern_in(alloc, value, "end")? else {
         return Ok(None);
     };
     Ok(Some(Rule::BeginEnd {
@@ -85,7 +87,7 @@ pub struct Inside {
 }
 
 fn one(alloc: Global, rule: Option<Rule>) -> Result<Option<Vec<Rule>>, OutOfMemory>
-    ensures { IfOk result (λ found. option_map (λ v. v.items) found ≡ option_map (λ r. r ∷ []) rule) }
+    ensures { IfOk result (λ found. option_map (λ v. rules_data v.items) found ≡ option_map (λ r. r ∷ []) (option_map rule_data rule)) }
 {
     match rule {
         Some(rule) => {
@@ -103,7 +105,7 @@ fn with_inside(
     value: &Value,
     inside: Inside,
 ) -> Result<Option<Vec<Rule>>, OutOfMemory>
-    ensures { IfOk result (λ found. option_map (λ v. v.items) found ≡ option_map (λ r. r ∷ inside.rules.items) (begin_of inside.numbers.items (view value.now))) }
+    ensures { IfOk result (λ found. option_map (λ v. rules_data v.items) found ≡ option_map (λ r. r ∷ rules_data inside.rules.items) (begin_of inside.numbers.items (view value.now))) }
 {
     let Inside { numbers, mut rules } = inside;
     let Some(rule) = begin_in(alloc, value, Numbers::new(numbers))? else {
@@ -123,7 +125,7 @@ fn rule_in(
     n: u32,
     value: &Value,
 ) -> Result<Option<Vec<Rule>>, OutOfMemory>
-    ensures { IfOk result (λ found. option_map (λ v. v.items) found ≡ rules_at levels n (view value.now)) }
+    ensures { IfOk result (λ found. option_map (λ v. rules_data v.items) found ≡ rules_at levels n (view value.now)) }
 {
     if levels == 0 {
         return Ok(None);

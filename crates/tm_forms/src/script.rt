@@ -4,7 +4,7 @@ ghost use Rattle.std.specs.Prelude.{◌≡◌, map, IfOk, IsTrue, option_map, op
 ghost use Rattle.std.specs.List.{list_all};
 ghost use Rattle.serde_json.specs.View.{view};
 ghost use Rattle.tm_forms.specs.Edits.{change_of};
-ghost use Rattle.tm_forms.specs.Script.{script_in, lines_in, steps_from, step_in, step_of, step_named, show_of, is_blank, is_built};
+ghost use Rattle.tm_forms.specs.Script.{script_in, lines_in, steps_from, step_in, step_of, step_named, show_of, is_blank, is_built, scan_steps};
 
 use crate::form::Form;
 use crate::{edits, json, text, utf8};
@@ -14,11 +14,14 @@ use std::marker::Model;
 use tm_defs::events::Step;
 use tm_defs::memory::OutOfMemory;
 
-/// A step of a script: one of the service, of which `edit` and `line` are built, or an order to print.
+/// A step of a script: one of the service, of which `edit`, `line` and `settle` are built, or an order
+/// to print.
 #[derive(Drop)]
 pub enum ScriptStep {
-    /// `Step::Edit` or `Step::Line`.
+    /// `Step::Edit`, `Step::Line` or `Step::Settle`.
     Core(Step),
+    /// `Step::Settle`, which tells only of a blocked line. No script file has it: a scan begins with it.
+    SettleQuietly,
     /// All lines of the text are printed with their tokens.
     Show,
 }
@@ -50,6 +53,22 @@ impl Model for Script {
 }
 
 impl Script {
+    /// What a scan does: it settles quietly, and shows all lines.
+    pub fn scan(alloc: Global) -> Result<Self, OutOfMemory>
+        ensures { IfOk result (λ script. script ≡ scan_steps) }
+    {
+        let mut steps = Vec::new(alloc);
+        steps.push(Scripted {
+            line: 0,
+            step: ScriptStep::SettleQuietly,
+        })?;
+        steps.push(Scripted {
+            line: 1,
+            step: ScriptStep::Show,
+        })?;
+        Ok(Script { steps })
+    }
+
     /// The steps in the order of their lines.
     pub fn as_slice(&self) -> &[Scripted]
         ensures value { result.now ≡ self.now }
@@ -97,6 +116,8 @@ fn named(alloc: Global, value: &Value, word: &str) -> Result<Option<ScriptStep>,
         edit_in(alloc, value)
     } else if word == "line" {
         Ok(Some(ScriptStep::Core(Step::Line)))
+    } else if word == "settle" {
+        Ok(Some(ScriptStep::Core(Step::Settle)))
     } else if word == "show" {
         Ok(show_in(value))
     } else {
@@ -155,6 +176,13 @@ fn lines_of(alloc: Global, text: &str) -> Result<Vec<&str>, OutOfMemory>
 }
 
 impl Form for Script {
+    ghost use Rattle.std.specs.Prelude.{List};
+    ghost use Rattle.tm_forms.specs.declared.script.Scripted.{Scripted};
+
+    ghost Plain = { List Scripted };
+
+    ghost plain = { λ script. script };
+
     ghost form = { script_in };
 
     fn read(alloc: Global, bytes: &[u8]) -> Result<Option<Self>, OutOfMemory> {

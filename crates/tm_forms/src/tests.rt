@@ -10,8 +10,9 @@ use std::test::Fail;
 use tm_defs::events::Step;
 use tm_defs::memory::OutOfMemory;
 use tm_defs::rules::Numbers;
-use tm_defs::texts::Name;
-use tm_literal::rules::Rule;
+use tm_defs::texts::{Line, Name};
+use tm_line::rules::Rule;
+use tm_onig_vm::program::{Prog, find};
 
 /// The values may cross threads.
 fn crosses<T: Send + Sync>(_: &T) {}
@@ -55,6 +56,22 @@ fn push_numbers(alloc: Global, text: &mut String, numbers: &Numbers) -> Result<(
     Ok(())
 }
 
+/// Where a pattern matches first in the line `q p let é+7 bezax cd`.
+fn push_match(alloc: Global, text: &mut String, pattern: &Prog) -> Result<(), Fail> {
+    let line = Line::new("q p let é+7 bezax cd".chars().collect(alloc)?);
+    let mut budget = 1_000;
+    match find(alloc, pattern, &line, 0, false, false, &mut budget) {
+        Ok(Some(caps)) => {
+            if let Some(Some((start, end))) = caps.as_slice().first() {
+                text.push_str(format!(in alloc; " {start}-{end}")?.as_str())?;
+            }
+        }
+        Ok(None) => text.push_str(" nowhere")?,
+        Err(_) => text.push_str(" fault")?,
+    }
+    Ok(())
+}
+
 /// The scope and the rules of a grammar, in one line.
 fn grammar_text(alloc: Global, bytes: &[u8]) -> Result<String, Fail> {
     let mut text = String::new(alloc);
@@ -67,7 +84,7 @@ fn grammar_text(alloc: Global, bytes: &[u8]) -> Result<String, Fail> {
         match rule {
             Rule::Match { pattern, name } => {
                 text.push_str(", match")?;
-                push_name(&mut text, pattern)?;
+                push_match(alloc, &mut text, pattern)?;
                 push_optional(&mut text, name)?;
             }
             Rule::BeginEnd {
@@ -77,8 +94,8 @@ fn grammar_text(alloc: Global, bytes: &[u8]) -> Result<String, Fail> {
                 patterns,
             } => {
                 text.push_str(", begin")?;
-                push_name(&mut text, begin)?;
-                push_name(&mut text, end)?;
+                push_match(alloc, &mut text, begin)?;
+                push_match(alloc, &mut text, end)?;
                 push_optional(&mut text, name)?;
                 push_numbers(alloc, &mut text, patterns)?;
             }
@@ -88,8 +105,8 @@ fn grammar_text(alloc: Global, bytes: &[u8]) -> Result<String, Fail> {
             }
         }
     }
-    let literal = grammar.into_literal(alloc);
-    crosses(&literal);
+    let setting = grammar.into_setting(alloc);
+    crosses(&setting);
     Ok(text)
 }
 
@@ -107,8 +124,16 @@ fn push_step(alloc: Global, text: &mut String, step: &Scripted) -> Result<(), Al
             text.push_str(" line")?;
             Ok(())
         }
+        ScriptStep::Core(Step::Settle) => {
+            text.push_str(" settle")?;
+            Ok(())
+        }
         ScriptStep::Core(_) => {
             text.push_str(" other")?;
+            Ok(())
+        }
+        ScriptStep::SettleQuietly => {
+            text.push_str(" quietly")?;
             Ok(())
         }
         ScriptStep::Show => {
@@ -116,6 +141,13 @@ fn push_step(alloc: Global, text: &mut String, step: &Scripted) -> Result<(), Al
             Ok(())
         }
     }
+}
+
+fn push_steps(alloc: Global, text: &mut String, steps: &[Scripted]) -> Result<(), AllocError> {
+    for step in steps {
+        push_step(alloc, text, step)?;
+    }
+    Ok(())
 }
 
 /// The steps of a script, in one line; "no" where it is of another form.
@@ -126,13 +158,11 @@ fn script_text(alloc: Global, bytes: &[u8]) -> Result<String, Fail> {
         return Ok(text);
     };
     crosses(&script);
-    for step in script.as_slice() {
-        push_step(alloc, &mut text, step)?;
-    }
+    push_steps(alloc, &mut text, script.as_slice())?;
     Ok(text)
 }
 
-const OTHER_SETTINGS: [&[u8]; 13] = [
+const OTHER_SETTINGS: [&[u8]; 20] = [
     b"",
     b"[]",
     b"{}",
@@ -143,6 +173,13 @@ const OTHER_SETTINGS: [&[u8]; 13] = [
     b"{\"settings\":[{\"grammar\":\"g\"},{\"grammar\":\"g\"}]}",
     b"{\"settings\":[{\"grammar\":\"g\",\"theme\":null}]}",
     b"{\"settings\":[{\"grammar\":\"g\"}],\"more\":1}",
+    b"{\"settings\":[{\"grammar\":\"g\"}],\"budget\":999}",
+    b"{\"settings\":[{\"grammar\":\"g\"}],\"budget\":1000000001}",
+    b"{\"settings\":[{\"grammar\":\"g\"}],\"budget\":1000.0}",
+    b"{\"settings\":[{\"grammar\":\"g\"}],\"budget\":null}",
+    b"{\"settings\":[{\"grammar\":\"g\"}],\"budget\":\"1000\"}",
+    b"{\"settings\":[{\"grammar\":\"g\"}],\"budget\":1000,\"more\":1}",
+    b"{\"budget\":1000}",
     b"{\"settings\":[{\"grammar\":\"g\"}]",
     b"{\"settings\":[{\"grammar\":\"\xff\"}]}",
     b"\xef\xbb\xbf\xef\xbb\xbf{\"settings\":[{\"grammar\":\"g\"}]}",
@@ -152,18 +189,34 @@ const OTHER_SETTINGS: [&[u8]; 13] = [
 fn settings_of_their_form(rt: HostRuntime) -> Result<(), Fail> {
     let alloc = rt.alloc();
     let rows = [
-        ("{\"settings\":[{\"grammar\":\"g.json\"}]}", "g.json"),
+        (
+            "{\"settings\":[{\"grammar\":\"g.json\"}]}",
+            "g.json",
+            100_000_000,
+        ),
+        (
+            "{\"budget\":1000,\"settings\":[{\"grammar\":\"g\"}]}",
+            "g",
+            1_000,
+        ),
+        (
+            "{\"settings\":[{\"grammar\":\"g\"}],\"budget\":1000000000}",
+            "g",
+            1_000_000_000,
+        ),
         (
             "\u{feff} {\"settings\" : [ {\"grammar\":\"a b\"} ] }\r\n",
             "a b",
+            100_000_000,
         ),
-        ("{\"settings\":[{\"grammar\":\"\"}]}", ""),
+        ("{\"settings\":[{\"grammar\":\"\"}]}", "", 100_000_000),
         (
             "{\"settings\":1,\"settings\":[{\"grammar\":\"\\u0061\"}]}",
             "a",
+            100_000_000,
         ),
     ];
-    for (file, want) in rows {
+    for (file, want, budget) in rows {
         let found = Settings::read(alloc, file.as_bytes())?;
         let Some(settings) = found else {
             assert!(rt; false, "{file}");
@@ -171,6 +224,7 @@ fn settings_of_their_form(rt: HostRuntime) -> Result<(), Fail> {
         };
         crosses(&settings);
         assert_eq!(rt; settings.grammar(), want, "{file}");
+        assert_eq!(rt; settings.budget(), budget, "{file}");
     }
     for file in OTHER_SETTINGS {
         assert!(rt; !is_of_form::<Settings>(alloc, file)?);
@@ -178,7 +232,7 @@ fn settings_of_their_form(rt: HostRuntime) -> Result<(), Fail> {
     Ok(())
 }
 
-const OTHER_GRAMMARS: [&str; 25] = [
+const OTHER_GRAMMARS: [&str; 30] = [
     "{\"patterns\":[]}",
     "{\"scopeName\":\"s\"}",
     "{\"scopeName\":\"\",\"patterns\":[]}",
@@ -188,10 +242,14 @@ const OTHER_GRAMMARS: [&str; 25] = [
     "{\"scopeName\":\"s\",\"patterns\":[\"a\"]}",
     "{\"scopeName\":\"s\",\"patterns\":[{}]}",
     "{\"scopeName\":\"s\",\"patterns\":[{\"match\":\"\"}]}",
-    "{\"scopeName\":\"s\",\"patterns\":[{\"match\":\"aB\"}]}",
-    "{\"scopeName\":\"s\",\"patterns\":[{\"match\":\"a1\"}]}",
-    "{\"scopeName\":\"s\",\"patterns\":[{\"match\":\"a.\"}]}",
-    "{\"scopeName\":\"s\",\"patterns\":[{\"match\":\"é\"}]}",
+    "{\"scopeName\":\"s\",\"patterns\":[{\"match\":\"a*\"}]}",
+    "{\"scopeName\":\"s\",\"patterns\":[{\"match\":\"a|\"}]}",
+    "{\"scopeName\":\"s\",\"patterns\":[{\"match\":\"^\"}]}",
+    "{\"scopeName\":\"s\",\"patterns\":[{\"match\":\"a(\"}]}",
+    "{\"scopeName\":\"s\",\"patterns\":[{\"match\":\"(?=a)a\"}]}",
+    "{\"scopeName\":\"s\",\"patterns\":[{\"match\":\"a{2}\"}]}",
+    "{\"scopeName\":\"s\",\"patterns\":[{\"match\":\"(a)\\\\1\"}]}",
+    "{\"scopeName\":\"s\",\"patterns\":[{\"match\":1}]}",
     "{\"scopeName\":\"s\",\"patterns\":[{\"match\":\"a\",\"name\":\"\"}]}",
     "{\"scopeName\":\"s\",\"patterns\":[{\"match\":\"a\",\"name\":\"N\"}]}",
     "{\"scopeName\":\"s\",\"patterns\":[{\"match\":\"a\",\"name\":null}]}",
@@ -201,24 +259,29 @@ const OTHER_GRAMMARS: [&str; 25] = [
     "{\"scopeName\":\"s\",\"patterns\":[{\"begin\":\"b\"}]}",
     "{\"scopeName\":\"s\",\"patterns\":[{\"end\":\"e\"}]}",
     "{\"scopeName\":\"s\",\"patterns\":[{\"begin\":\"b\",\"end\":\"\"}]}",
+    "{\"scopeName\":\"s\",\"patterns\":[{\"begin\":\"b?\",\"end\":\"e\"}]}",
     "{\"scopeName\":\"s\",\"patterns\":[{\"begin\":\"b\",\"end\":\"e\",\"patterns\":1}]}",
     "{\"scopeName\":\"s\",\"patterns\":[{\"begin\":\"b\",\"end\":\"e\",\"patterns\":[{}]}]}",
     "{\"scopeName\":\"s\",\"patterns\":[{\"begin\":\"b\",\"end\":\"e\",\"while\":\"w\"}]}",
 ];
 
-const GRAMMARS: [(&str, &str); 4] = [
+const GRAMMARS: [(&str, &str); 5] = [
     ("{\"scopeName\":\"s.t\",\"patterns\":[]}", " s.t, only"),
     (
         "\u{feff}{\"patterns\":[{\"match\":\"let\",\"name\":\"keyword.t\"},{\"match\":\"x\"}],\"scopeName\":\".\"}",
-        " ., only 1 2, match let keyword.t, match x -",
+        " ., only 1 2, match 4-7 keyword.t, match 16-17 -",
     ),
     (
         "{\"scopeName\":\"s\",\"patterns\":[{\"begin\":\"q\",\"end\":\"p\",\"name\":\"c\",\"patterns\":[{\"match\":\"a\"},{\"begin\":\"b\",\"end\":\"e\",\"patterns\":[{\"match\":\"c\"}]},{\"match\":\"d\"}]},{\"begin\":\"z\",\"end\":\"z\"}]}",
-        " s, only 1 6, begin q p c 2 3 5, match a -, begin b e - 4, match c -, match d -, begin z z -",
+        " s, only 1 6, begin 0-1 2-3 c 2 3 5, match 15-16 -, begin 12-13 5-6 - 4, match 18-19 -, match 19-20 -, begin 14-15 14-15 -",
     ),
     (
         "{\"scopeName\":\"s\",\"patterns\":[{\"match\":\"A\",\"match\":\"a\"}]}",
-        " s, only 1, match a -",
+        " s, only 1, match 15-16 -",
+    ),
+    (
+        "{\"scopeName\":\"s\",\"patterns\":[{\"match\":\"é\\\\+(\\\\d|x)\"},{\"begin\":\"\\\\b[b-d]+?\",\"end\":\"$a|d$\"}]}",
+        " s, only 1 2, match 8-11 -, begin 12-13 19-20 -",
     ),
 ];
 
@@ -274,10 +337,12 @@ fn texts_of_their_form(rt: HostRuntime) -> Result<(), Fail> {
     Ok(())
 }
 
-const SCRIPTS: [(&str, &str); 33] = [
+const SCRIPTS: [(&str, &str); 35] = [
     ("", ""),
     (" \t\r\n\n", ""),
     ("{\"step\":\"line\"}", ", 0 line"),
+    ("{\"step\":\"settle\"}", ", 0 settle"),
+    ("{\"step\":\"force\",\"line\":0}", "no"),
     (
         "\u{feff}{\"step\":\"line\",\"more\":[1]}\r\n\t \r\n{\"step\":\"show\",\"at\":0}\n",
         ", 0 line, 2 show",
@@ -339,5 +404,8 @@ fn scripts_of_their_form(rt: HostRuntime) -> Result<(), Fail> {
         );
     }
     assert!(rt; !is_of_form::<Script>(alloc, b"{\"step\":\"line\"}\n\xff")?);
+    let mut text = String::new(alloc);
+    push_steps(alloc, &mut text, Script::scan(alloc)?.as_slice())?;
+    assert_eq!(rt; text.as_str(), ", 0 quietly, 1 show");
     Ok(())
 }

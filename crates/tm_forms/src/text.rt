@@ -58,6 +58,12 @@ pub(crate) fn short(length: usize) -> bool
 }
 
 impl Form for TextFile {
+    ghost use Rattle.std.specs.Prelude.{List, ℕ};
+
+    ghost Plain = { List ℕ };
+
+    ghost plain = { λ text. text };
+
     ghost form = { text_in };
 
     fn read(alloc: Global, bytes: &[u8]) -> Result<Option<Self>, OutOfMemory> {

@@ -14,7 +14,7 @@ use Rattle.tm_line_run.specs.Painted.{painted}
 use Rattle.tm_line_run.specs.declared.painter.Painted.{Painted}
 use Rattle.tm_line_run.proofs.Turns.{Falls}
 use Rattle.tm_line.specs.declared.turn.Next.TheVariants as next
-use Rattle.tm_literal.specs.Metadata.{metadata_of}
+use Rattle.tm_meta.specs.Metadata.{metadata_of}
 use Rattle.tm_line.specs.Ran.{Ran}
 use Rattle.tm_line.specs.Tokenizing.{place_of}
 use Rattle.tm_line.specs.Turned.{Takes, part_of, made_in}

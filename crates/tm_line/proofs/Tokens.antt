@@ -20,7 +20,7 @@ use Rattle.tm_line_run.proofs.Runs.{runs-painted}
 use Rattle.tm_line.specs.Rules.{Rule}
 use Rattle.tm_line.specs.Advancing.{advances}
 use Rattle.tm_line.specs.Grammar.{rules_grammar}
-use Rattle.tm_literal.specs.Metadata.{metadata_of}
+use Rattle.tm_meta.specs.Metadata.{metadata_of}
 use Rattle.tm_line.specs.Ran.{Ran, Tokenizes}
 use Rattle.tm_line.specs.Turned.{of_table}
 use Rattle.tm_line.proofs.Causes.{cause-more, of_table-cause}

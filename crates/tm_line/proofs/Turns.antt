@@ -19,7 +19,7 @@ use Rattle.tm_line.specs.declared.turn.Here.{Here}
 use Rattle.tm_line.specs.declared.turn.Next.{Next}
 use Rattle.tm_line.specs.declared.turn.Next.TheVariants as next
 use Rattle.tm_line.specs.Grammar.{match_of, names_of, started, of_candidate, of_found, rules_grammar}
-use Rattle.tm_literal.specs.Metadata.{metadata_of}
+use Rattle.tm_meta.specs.Metadata.{metadata_of}
 use Rattle.tm_line.specs.Search.{Candidate, earliest_winner, searches_cost, flattened_candidates}
 use Rattle.tm_line.specs.Searched.{Searches}
 use Rattle.tm_line.specs.Tokenizing.{place_of}

@@ -9,7 +9,7 @@ use Rattle.tm_defs.specs.Tokenizer.{IsLineCause}
 use Rattle.tm_line_run.specs.LineRun.{Outcome}
 use Rattle.tm_line_run.specs.Painted.{painted}
 use Rattle.tm_line_run.specs.declared.painter.Painted.{Painted}
-use Rattle.tm_literal.specs.Metadata.{metadata_of}
+use Rattle.tm_meta.specs.Metadata.{metadata_of}
 use Rattle.tm_line.specs.Setting.{Setting}
 use Rattle.tm_line.specs.Searched.{Spends}
 use Rattle.tm_line.specs.Tokenizing.{rules_tokenized, rules_made, rules_cost}

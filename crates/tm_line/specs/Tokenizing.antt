@@ -6,7 +6,7 @@ use Rattle.tm_defs.specs.Tokenizer.{Tokenized}
 use Rattle.tm_line_run.specs.LineRun.{Place, Outcome, names_made, opened, line_run}
 use Rattle.tm_line_run.specs.Painted.{scopes_at, runs_of}
 use Rattle.tm_line.specs.Grammar.{rules_grammar}
-use Rattle.tm_literal.specs.Metadata.{metadata_of}
+use Rattle.tm_meta.specs.Metadata.{metadata_of}
 use Rattle.tm_line.specs.Setting.{Setting}
 
 -- the place of open rules, the innermost first (no line has none)

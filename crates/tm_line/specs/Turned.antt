@@ -19,7 +19,7 @@ use Rattle.tm_line.specs.declared.turn.Here.{Here}
 use Rattle.tm_line.specs.declared.turn.Next.{Next}
 use Rattle.tm_line.specs.declared.turn.Next.TheVariants as next
 use Rattle.tm_line.specs.Grammar.{match_of}
-use Rattle.tm_literal.specs.Metadata.{metadata_of}
+use Rattle.tm_meta.specs.Metadata.{metadata_of}
 
 -- a state with its innermost frame split off
 pub record IsHere (t : Tables) (h : Here) : Type 0 where

@@ -5,7 +5,7 @@ ghost use Rattle.tm_defs.specs.Tables.{GrowsWithin, IsFullForSome, state_at};
 ghost use Rattle.tm_defs.specs.declared.tokenizer.LineFault.TheVariants as fault;
 ghost use Rattle.tm_line_run.specs.Painted.{furthest, meta_at, runs_of};
 ghost use Rattle.tm_line.specs.Advancing.{advances};
-ghost use Rattle.tm_literal.specs.Metadata.{metadata_of};
+ghost use Rattle.tm_meta.specs.Metadata.{metadata_of};
 ghost use Rattle.tm_line.specs.Ran.{Tokenizes};
 ghost use Rattle.tm_line.specs.Rules.{rules_data};
 ghost use Rattle.tm_line.specs.Setting.{setting_of, setting_data};
@@ -24,7 +24,7 @@ use tm_defs::tables::{States, TableFault};
 use tm_defs::texts::{Line, Name};
 use tm_defs::tokenizer::{LineFault, LineOut, LineTok};
 use tm_line_run::painter::{Painted, tokens_of};
-use tm_literal::metadata::{base_metadata, metadata};
+use tm_meta::metadata::{base_metadata, metadata};
 
 /// A setting. Rule 0 is the root, and each match of a pattern takes a character.
 #[derive(Drop)]

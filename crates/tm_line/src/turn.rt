@@ -10,7 +10,7 @@ ghost use Rattle.tm_defs.specs.declared.tables.TableFault.TheVariants as fault;
 ghost use Rattle.tm_line_run.specs.Painted.{painted};
 ghost use Rattle.tm_line_run.specs.LineRun.{names_made, opened, paints, some_open, rests, ended, matched, begun, turn as turn_at};
 ghost use Rattle.tm_line.specs.Grammar.{match_of, rules_grammar};
-ghost use Rattle.tm_literal.specs.Metadata.{metadata_of};
+ghost use Rattle.tm_meta.specs.Metadata.{metadata_of};
 ghost use Rattle.tm_line.specs.Rules.{rules_data};
 ghost use Rattle.tm_line.specs.Tokenizing.{place_of};
 ghost use Rattle.tm_line.specs.Turned.{Does, IsHere, Takes, of_search, of_table, place_here, taken_turn, turn_of};
@@ -24,7 +24,7 @@ use tm_defs::tables::{States, TableFault};
 use tm_defs::texts::{Line, Name};
 use tm_defs::tokenizer::LineFault;
 use tm_line_run::painter::Painted;
-use tm_literal::metadata::paint;
+use tm_meta::metadata::paint;
 use tm_onig_vm::fault::FindFault;
 
 /// Where a line stands: its state, that state's innermost frame and the state without it, and the

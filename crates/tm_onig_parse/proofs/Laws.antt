@@ -4,6 +4,7 @@ use Rattle.std.specs.Prelude.{IfOk, nat_le, if◌then◌else◌}
 use Rattle.std.proofs.lemmas.Option.{cond_some}
 use Rattle.std.proofs.lemmas.Bool.{leb-true}
 use Rattle.tm_onig_class.specs.Tree.{Tree, tree_of}
+use Rattle.tm_onig_class.specs.Widths.{least_width}
 use Rattle.tm_onig_class.specs.declared.patterns.Pattern.{Pattern}
 use Rattle.tm_onig_parse.specs.declared.ParseFault.{ParseFault}
 use Rattle.tm_onig_parse.specs.declared.options.Options.{Options}
@@ -122,7 +123,7 @@ abbrev none : Stack
 none = stack [] None Nothing
 
 -- What is read is in the grammar, with its tree.
-parsed_found : (t : List ℕ) (tree : Tree) → parsed t ≡ Some tree → (alts : Alts) × Spells t alts × (tree ≡ meaning alts)
+pub parsed_found : (t : List ℕ) (tree : Tree) → parsed t ≡ Some tree → (alts : Alts) × Spells t alts × (tree ≡ meaning alts)
 parsed_found t tree e =
     let c = long_enough (nat_le (length t) 65536) refl e in
     let r = read_found (length t) none t tree (omega arith) c.1 in (
@@ -164,3 +165,7 @@ found_in t (Err fault) e = tt
 pub numbered_in : (t : List ℕ) (r : Result Pattern ParseFault) → Gives tree_of r (parsed t) → IfOk r (λ pattern. IsNumbered (tree_of pattern))
 numbered_in t (Ok pattern) e = let found = parsed_found t (tree_of pattern) e in subst IsNumbered (sym found.2) (spells_numbered t found.0 found.1)
 numbered_in t (Err fault) e = tt
+
+-- what is read takes a character at each match
+pub parsed_wide : (t : List ℕ) (tree : Tree) → parsed t ≡ Some tree → 1 ≤ least_width tree
+parsed_wide t tree e = let found = parsed_found t tree e in subst (λ (u : Tree). 1 ≤ least_width u) (sym found.2) found.1.advances

@@ -5,11 +5,12 @@
 //! can be let go. The grammar is a definition apart (`specs/Grammar.antt`, `specs/Meaning.antt`).
 #![tactic(auto)]
 
-ghost use Rattle.std.specs.Prelude.{◌≡◌, IfOk, Some};
+ghost use Rattle.std.specs.Prelude.{◌≡◌, ℕ, List, IfOk, Some};
 ghost use Rattle.tm_onig_class.specs.Groups.{IsNumbered};
-ghost use Rattle.tm_onig_class.specs.Tree.{tree_of};
+ghost use Rattle.tm_onig_class.specs.Tree.{Tree, tree_of};
 ghost use Rattle.tm_onig_parse.specs.Grammar.{Alts};
 ghost use Rattle.tm_onig_parse.specs.Meaning.{Spells, meaning};
+ghost use Rattle.tm_onig_parse.specs.Reading.{parsed};
 ghost use Rattle.tm_onig_parse.specs.Views.{Gives};
 
 mod class_sets;
@@ -44,9 +45,18 @@ pub fn parse(alloc: Global, text: &Name) -> Result<Pattern, ParseFault>
     ensures only { (alts : Alts) → Spells text.now alts → Gives tree_of result (Some (meaning alts)) }
     // Its groups are numbered from 1 in the order of their opening.
     ensures numbered { IfOk result (λ pattern. IsNumbered (tree_of pattern)) }
+    // The same as a function of the text.
+    ensures read { Gives tree_of result (parsed text.now) }
 {
     reader::read(alloc, text.as_slice())
 }
+
+/// What is read of a text, as a function, is what the grammar says: the tree that the text means where
+/// it is a pattern, and none where it is not.
+pub fn reading_is_by_the_grammar()
+    ensures found { (text : List ℕ) (tree : Tree) → parsed text ≡ Some tree → (alts : Alts) × Spells text alts × (tree ≡ meaning alts) }
+    ensures only { (text : List ℕ) (alts : Alts) → Spells text alts → parsed text ≡ Some (meaning alts) }
+{}
 
 #[cfg(test)]
 mod tests;

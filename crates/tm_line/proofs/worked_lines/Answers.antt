@@ -4,7 +4,7 @@ use Rattle.tm_onig_search.specs.Search.{search_tree, search_row}
 use Rattle.tm_onig_search.specs.Find.{last_group, last_group_of, first_of}
 use Rattle.tm_line_run.specs.LineRun.{runs, line_run}
 use Rattle.tm_line_run.specs.Painted.{runs_from}
-use Rattle.tm_literal.specs.Metadata.{type_from}
+use Rattle.tm_meta.specs.Metadata.{type_from}
 use Rattle.tm_line.proofs.worked_lines.Goals as goal
 
 pub returns-clause-opens : goal.returns-clause-opens

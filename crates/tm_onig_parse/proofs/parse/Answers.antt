@@ -16,3 +16,6 @@ returns-clause-only c alts spells = subst (λ (o : Option Tree). Gives tree_of c
 
 pub returns-clause-numbered : goal.returns-clause-numbered
 returns-clause-numbered c = numbered_in c.args.text.now c.read.result (read_text c)
+
+pub returns-clause-read : goal.returns-clause-read
+returns-clause-read c = read_text c

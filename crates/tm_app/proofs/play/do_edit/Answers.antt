@@ -1,12 +1,10 @@
-use Rattle.std.proofs.Common.{[]}
 use Rattle.tm_app.proofs.PlayRuns.{takes-none}
-use Rattle.tm_app.proofs.StandSteps.{edit-prints, edit-reached, bad-edit}
+use Rattle.tm_app.proofs.StandSteps.{bad-edit}
+use Rattle.tm_app.proofs.StepsDone.{edit-done}
 use Rattle.tm_app.proofs.play.do_edit.Goals as goal
 
 pub returns-in-Ok-clause-ok : goal.returns-in-Ok-clause-ok
-returns-in-Ok-clause-ok g c = λ before r m past s there reached.
-    let did = edit-prints g.T.LineTok.plain g.T.LineTok.tokenized g.T.LineTok.plain_cost g.T.LineTok.entries_made c.args.model.now c.change.new.self c.args.step.now c.args.change.now c.requires c.in-Ok.ensures.ok.0 c.in-Ok.ensures.ok.2 r m s in
-    ([], did.0, did.1, did.2, edit-reached g.T.LineTok.plain g.T.LineTok.tokenized g.T.LineTok.plain_cost g.T.LineTok.entries_made c.args.model.now c.change.new.self c.args.change.now c.in-Ok.ensures.ok.2 r past reached, takes-none before)
+returns-in-Ok-clause-ok g c = λ before. edit-done g.T.LineTok.plain g.T.LineTok.tokenized g.T.LineTok.plain_cost g.T.LineTok.entries_made c.args.model.now c.change.new.self c.args.step.now c.args.change.now before c.requires c.in-Ok.ensures.ok.0 c.in-Ok.ensures.ok.2
 
 pub returns-in-Err-BadPlace-clause-err : goal.returns-in-Err-BadPlace-clause-err
 returns-in-Err-BadPlace-clause-err g c = λ before faults r m past s there reached.

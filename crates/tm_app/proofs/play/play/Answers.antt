@@ -1,4 +1,5 @@
 use Rattle.std.proofs.Common.{arith, ◌++◌, ◌+◌, subst, ap, ◌∙◌, List, take_all}
+use Rattle.std.specs.Prelude.{◌||◌}
 use Rattle.tm_forms.specs.declared.script.Scripted.{Scripted}
 use Rattle.tm_forms.specs.Script.{is_built}
 use Rattle.tm_outside.proofs.Taken.{takes-trans}
@@ -7,6 +8,7 @@ use Rattle.tm_app.specs.Stops.{StepStops}
 use Rattle.tm_app.proofs.PlayRuns.{plays-next, plays-stand, past-next, past-of, stop-next}
 use Rattle.tm_app.proofs.StandSteps.{reached-more}
 use Rattle.tm_app.proofs.StepTests.{built-at}
+use Rattle.tm_app.proofs.Tells.{both-tell, tells-as, tells-whole}
 use Rattle.tm_app.proofs.play.play.Goals as goal
 
 pub do_step-requires : goal.do_step-requires
@@ -33,6 +35,7 @@ loop-step-preserved g c = record {
         next.3,
         reached-more g.T.LineTok.plain g.T.LineTok.tokenized g.T.LineTok.plain_cost g.T.LineTok.entries_made r past (past-of m c.args.script.now (c.loop-step.step-index + 1)) c.do_step.new.model (past-next m c.args.script.now c.loop-step.step-index c.step-item.result c.loop-step-test.true) next.4,
         takes-trans _ _ _ so.0 next.0 so.5 next.5,
+        tells-as (so.0 ++ next.0) (c.loop-step.seen || c.in-Ok.told) c.either-seen.result c.either-seen.ensures (both-tell so.0 next.0 c.loop-step.seen c.in-Ok.told so.6 next.6),
       );
   never_falls = omega (arith, c.loop-step.invariant.never_falls, c.do_step.ensures.never_falls);
 }
@@ -41,4 +44,4 @@ pub returns-clause-ok : goal.returns-clause-ok
 returns-clause-ok g c = λ r m s reached.
     let so = c.loop-step.invariant.run r m s reached in
     let P : List Scripted → Type 0 = λ l. Plays r m l so.0 so.1 in
-    (so.0, so.1, subst P (take_all c.loop-step.step-index c.args.script.now c.loop-step-test.false) so.2, so.5)
+    (so.0, so.1, subst P (take_all c.loop-step.step-index c.args.script.now c.loop-step-test.false) so.2, so.5, tells-whole so.0 c.loop-step.seen so.6)

@@ -3,7 +3,7 @@ use Rattle.tm_machine.specs.Machine.{Rules, Machine}
 use Rattle.tm_machine.specs.Reach.{stand_in}
 use Rattle.tm_outside.specs.Causes.{Takes}
 use Rattle.tm_app.specs.Play.{Plays}
-use Rattle.tm_app.specs.Stands.{Stands, IsReached}
+use Rattle.tm_app.specs.Stands.{Stands, IsReached, Tells}
 use Rattle.tm_app.proofs.PlayRuns.{past-of}
 use Rattle.tm_app.proofs.play.play.Given as goal
 
@@ -14,6 +14,7 @@ invariant-loop-step g l = record {
       (bytes : List ℕ) × (n : Machine) × Plays r m (take l.step-index l.script) bytes n
       × Stands g.T.LineTok.plain g.T.LineTok.tokenized g.T.LineTok.plain_cost g.T.LineTok.entries_made r l.model n
       × IsReached g.T.LineTok.plain g.T.LineTok.tokenized g.T.LineTok.plain_cost g.T.LineTok.entries_made r (past-of m l.script l.step-index) l.model
-      × Takes (g.S.Sink.taken l.fn.out) (g.S.Sink.taken l.out) bytes;
+      × Takes (g.S.Sink.taken l.fn.out) (g.S.Sink.taken l.out) bytes
+      × Tells bytes l.seen;
   never_falls : g.S.Sink.faults l.fn.out ≤ g.S.Sink.faults l.out;
 }

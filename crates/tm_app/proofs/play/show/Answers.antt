@@ -1,7 +1,7 @@
 use Rattle.std.proofs.Common.{arith, ◌∙◌, ap, ◌++◌, drop, ◌+◌}
 use Rattle.tm_outside.proofs.Taken.{takes-trans}
 use Rattle.tm_app.specs.Printed.{line_text, shown_from}
-use Rattle.tm_app.proofs.ShownLines.{shown-next, shown-parts, show-stops}
+use Rattle.tm_app.proofs.ShownLines.{shown-next, shown-parts, show-stops, before-front}
 use Rattle.tm_app.proofs.play.show.Goals as goal
 
 pub returns-in-Err-write_line-clause-err : goal.returns-in-Err-write_line-clause-err
@@ -10,16 +10,17 @@ returns-in-Err-write_line-clause-err g c =
     let inv = c.loop-i.invariant in
     show-stops (g.S.Sink.taken c.args.out.now) (g.S.Sink.taken c.loop-i.out) _ inv.bytes c.as_str.result.now (shown_from all (c.loop-i.i + 1) (drop (c.loop-i.i + 1) all)) _ _ _ _ c.in-Err-write_line.fault
     (shown-parts all c.loop-i.i _ inv.bytes c.as_str.result.now c.entry.ensures
-    (c.as_str.ensures.value ∙ c.in-Ok.ensures ∙ ap (λ b. line_text b c.loop-i.i c.entry.result.now.tokens) c.accurate.ensures.value) inv.rest)
+    (c.as_str.ensures.value ∙ c.in-Ok.ensures ∙ ap (λ b. line_text b c.loop-i.i c.entry.result.now.tokens) (before-front all c.front-front.result c.loop-i.i c.stands_before-accurate.result c.front-front.ensures c.stands_before-accurate.ensures)) inv.rest)
     inv.takes inv.never_falls c.in-Err-write_line.ensures.err
 
 pub loop-i-preserved : goal.loop-i-preserved
 loop-i-preserved g c =
+    let all = c.args.model.now.entries in
     let inv = c.loop-i.invariant in
     record {
       bytes = inv.bytes ++ c.as_str.result.now;
       takes = takes-trans _ _ _ inv.bytes c.as_str.result.now inv.takes c.in-Ok-write_line.ensures.ok;
       rest = shown-next c.args.model.now.entries c.loop-i.i _ inv.bytes c.as_str.result.now c.entry.ensures
-          (c.as_str.ensures.value ∙ c.in-Ok.ensures ∙ ap (λ b. line_text b c.loop-i.i c.entry.result.now.tokens) c.accurate.ensures.value) inv.rest;
+          (c.as_str.ensures.value ∙ c.in-Ok.ensures ∙ ap (λ b. line_text b c.loop-i.i c.entry.result.now.tokens) (before-front all c.front-front.result c.loop-i.i c.stands_before-accurate.result c.front-front.ensures c.stands_before-accurate.ensures)) inv.rest;
       never_falls = omega (arith, inv.never_falls, c.write_line.ensures.never_falls);
     }

@@ -1,7 +1,7 @@
 use Rattle.std.proofs.Common.{ap, ◌∙◌, sym, ◌∷◌, []}
 use Rattle.std.specs.Prelude.{option_map}
 use Rattle.tm_forms.proofs.RuleWalk.{if_ok, rules-match, rules-none, rules-some}
-use Rattle.tm_literal.specs.declared.rules.Rule.{Rule}
+use Rattle.tm_line.specs.Rules.{Rule}
 use Rattle.tm_forms.specs.Rules.{listed_of}
 use Rattle.serde_json.specs.View.{view}
 use Rattle.tm_forms.proofs.rules.+walk.Goals as goal

@@ -1,4 +1,4 @@
-use Rattle.std.proofs.Common.{◌≡◌, map, option_map, ap, sym, ◌∙◌, Some, List, ℕ, Vec, Global}
+use Rattle.std.proofs.Common.{map, option_map, ap, sym, ◌∙◌, List, ℕ, Vec, Global}
 use Rattle.std.specs.Borrow.{Bor}
 use Rattle.tm_forms.specs.declared.script.Scripted.{Scripted}
 use Rattle.tm_forms.proofs.BuiltSteps.{steps-built}

@@ -1,0 +1,94 @@
+#!/usr/bin/env python3
+"""lines.py [RUNS]
+
+Measures whole runs of the built program over generated texts, RUNS times each (5), and prints the least
+of the times:
+
+- `replay` of one settle and one show over 10,000 and 20,000 lines, by a grammar of five patterns;
+- `scan` of 100,000 and 200,000 short lines by the ini grammar of examples/: a text file of the form that is
+  built has at most 1,000,000 bytes, so a line has four characters at most.
+
+Peak memory is that of the program's process, as the system counts it.
+"""
+import json
+import os
+import subprocess
+import sys
+import tempfile
+import time
+
+TOP = os.path.dirname(os.path.dirname(os.path.abspath(__file__)))
+PROGRAM = os.path.join(TOP, "crates", "tm_prog", "out", "tm_prog")
+
+FIVE = {"scopeName": "source.t", "patterns": [
+    {"match": "\\b(?:let|be|if|then|else)\\b", "name": "keyword.t"},
+    {"match": "\\d+", "name": "constant.t"},
+    {"begin": "\"", "end": "\"|\\n", "name": "string.t"},
+    {"begin": "/\\*", "end": "\\*/", "name": "comment.block.t"},
+    {"match": "//.*", "name": "comment.line.t"},
+]}
+
+FIVE_LINES = ["let a be 12", "if \"x y\" then b", "/* a note", "goes on */ else 7", "name = 44 // rest",
+              "plain words here", ""]
+
+INI_LINES = ["; ab", "[ab]", "a=12", "b=\"x", "c= 1", "", "#"]
+
+
+def written(folder, name, data):
+    path = os.path.join(folder, name)
+    with open(path, "w", encoding="utf-8") as file:
+        file.write(data)
+    return path
+
+
+def text_of(lines, count):
+    return "\n".join(lines[i % len(lines)] for i in range(count))
+
+
+def run(words):
+    """Seconds, peak memory in kilobytes, and how many lines were printed."""
+    begin = time.monotonic()
+    process = subprocess.Popen([PROGRAM] + words, stdout=subprocess.PIPE)
+    printed = process.stdout.read()
+    _, status, usage = os.wait4(process.pid, 0)
+    seconds = time.monotonic() - begin
+    if os.waitstatus_to_exitcode(status) != 0:
+        sys.exit(f"lines.py: {' '.join(words)} ended with {status}")
+    return seconds, usage.ru_maxrss, printed.count(b"\n")
+
+
+def table(title, sizes, words, runs):
+    print(title)
+    times = []
+    for size in sizes:
+        results = [run(words(size)) for _ in range(runs)]
+        seconds = min(result[0] for result in results)
+        times.append(seconds)
+        print(f"  {size} lines: {seconds:.3f} s, {size / seconds:.0f} lines a second, "
+              f"{results[0][1] / 1024:.1f} MB, {results[0][2]} printed")
+    print(f"  ratio {times[1] / times[0]:.2f}")
+
+
+def main():
+    runs = int(sys.argv[1]) if len(sys.argv) > 1 else 5
+    with tempfile.TemporaryDirectory() as folder:
+        grammar = written(folder, "five.json", json.dumps(FIVE))
+        five = written(folder, "five_settings.json", json.dumps({"settings": [{"grammar": grammar}]}))
+        ini = os.path.join(TOP, "examples", "ini", "ini.json")
+        ini_settings = written(folder, "ini_settings.json", json.dumps({"settings": [{"grammar": ini}]}))
+        script = written(folder, "script.jsonl", '{"step":"settle"}\n{"step":"show"}\n')
+
+        def replay(size):
+            text = written(folder, f"five_{size}.txt", text_of(FIVE_LINES, size))
+            return ["replay", five, text, script]
+
+        def scan(size):
+            text = written(folder, f"ini_{size}.txt", text_of(INI_LINES, size))
+            return ["scan", ini_settings, text]
+
+        table("replay, five patterns", (10_000, 20_000), replay, runs)
+        table("scan, ini grammar", (100_000, 200_000), scan, runs)
+
+
+if __name__ == "__main__":
+    main()

@@ -1,7 +1,0 @@
-use Rattle.tm_line_run.proofs.Turns.{is_line_run}
-use Rattle.tm_literal.specs.Grammar.{literal_grammar}
-use Rattle.tm_literal.proofs.Forward.{finds-forward}
-use Rattle.tm_literal.proofs.one_outcome.Goals as goal
-
-pub returns : goal.returns
-returns c = λ rules text texts. is_line_run (literal_grammar rules text) (finds-forward rules text texts)

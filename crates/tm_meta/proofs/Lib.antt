@@ -1,0 +1,3 @@
+pub mod Leftmost
+pub mod Matches
+pub mod Metas
