@@ -8,7 +8,7 @@ use Rattle.tm_defs.specs.declared.events.Step.TheVariants as step
 use Rattle.tm_forms.specs.declared.script.ScriptStep.{ScriptStep}
 use Rattle.tm_forms.specs.declared.script.ScriptStep.TheVariants.{Core, Show}
 use Rattle.tm_forms.specs.declared.script.Scripted.{Scripted}
-use Rattle.tm_machine.specs.Machine.{Rules, Machine, Answer, Edited, Lined, Steps}
+use Rattle.tm_machine.specs.Machine.{Rules, Machine, Answer, Edited, Lined, Forced, Steps}
 use Rattle.tm_machine.specs.Reach.{Stand, stand_in, stand_after, stands_of}
 use Rattle.tm_machine.proofs.ReachedTables.{reaches-more, stands-first, stands-later, stands-more}
 use Rattle.tm_outside.specs.Causes.{Takes, TakesFront}
@@ -58,6 +58,7 @@ past-next m xs i d h s there =
 step-stand : (r : Rules) (m n : Machine) (s : Step) (a : Answer) → Steps r m s a n → stand_in n ≡ stand_after (stand_in m) s
 step-stand r m n (step.Edit c) (Edited version) d = ap stand_in d.2
 step-stand r m n step.Line (Lined turn) d = ap stand_in d.2
+step-stand r m n step.Settle (Forced done blocked) d = ap stand_in d.2
 step-stand r m n _ _ d = absurd d
 
 -- what stood behind a step, and then the steps behind it

@@ -6,7 +6,7 @@ use Rattle.tm_defs.specs.declared.frames.FrameData.{FrameData}
 use Rattle.tm_defs.specs.declared.tokens.Token.{Token}
 use Rattle.tm_machine.specs.declared.entries.Entry.{Entry}
 use Rattle.tm_machine.specs.Entries.{is_accurate}
-use Rattle.tm_machine.specs.Machine.{Answer, Edited, Lined}
+use Rattle.tm_machine.specs.Machine.{Answer, Edited, Lined, Forced}
 use Rattle.tm_app.specs.Hex.{eight_digits}
 
 -- the line that a turn prints
@@ -19,6 +19,8 @@ turn_text (Blocked i) = codes "! " ++ decimal i ++ codes "\n"
 abbrev pub answer_text : Answer → List ℕ
 answer_text (Edited version) = []
 answer_text (Lined turn) = turn_text turn
+answer_text (Forced done None) = codes "work " ++ decimal done ++ codes "\n"
+answer_text (Forced done (Some i)) = codes "work " ++ decimal done ++ codes "\n" ++ turn_text (Blocked i)
 
 -- a token as its start in decimal and its metadata in eight hexadecimal digits
 abbrev pub token_text : Token → List ℕ
