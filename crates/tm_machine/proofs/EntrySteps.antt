@@ -2,13 +2,14 @@
 use Rattle.std.proofs.Common.{◌≡◌, ℕ, zero, suc, ◌+◌, ◌<◌, ◌≤◌, Bool, true, false, cond, List, [], ◌∷◌, ◌++◌, length, take, drop, map, Option, Some, None, refl, sym, ap, ◌∙◌, subst, arith, add-one}
 use Rattle.std.specs.Prelude.{slice_get}
 use Rattle.std.specs.List.{list_all}
-use Rattle.std.proofs.lemmas.Bool.{and_parts, and_from}
+use Rattle.std.proofs.lemmas.Bool.{and_parts}
 use Rattle.std.proofs.lemmas.Option.{slice_get-get_or}
 use Rattle.tm_defs.specs.declared.frames.FrameData.{FrameData}
 use Rattle.tm_machine.specs.declared.entries.Entry.{Entry}
 use Rattle.tm_machine.specs.Changes.{spliced}
 use Rattle.tm_machine.specs.Scratch.{Tokenizing, state_from}
-use Rattle.tm_machine.specs.Entries.{blank, invalid, first_invalid, put, stored, is_end, end_at, start_at, block, last_end, blanks, is_accurate, is_settled, Holds, IsRight, AreRight, IsFromScratch, AreAccurate}
+use Rattle.tm_machine.specs.Entries.{blank, invalid, first_invalid, put, stored, is_end, end_at, start_at, block, last_end, blanks, is_accurate, Holds, IsRight, AreRight, IsFromScratch, AreAccurate}
+use Rattle.tm_machine.proofs.Fronts.{good-settled}
 use Rattle.tm_machine.proofs.SameStates.{is_end-true}
 
 -- an entry that is neither good nor blocked is right
@@ -124,15 +125,10 @@ module _ (k : Tokenizing) (budget : ℕ) where
       let a' : list_all (λ (x : Entry (List FrameData)). x.good) (take (suc i) es) ≡ true = rw add-one at a in
       (_, _, line, entry, holds-from [] lines es i _ _ h a' line entry)
 
-all-take : (n : ℕ) (es : List (Entry (List FrameData))) → is_settled es ≡ true → list_all (λ (x : Entry (List FrameData)). x.good) (take n es) ≡ true
-all-take zero es h = refl
-all-take (suc n) [] h = refl
-all-take (suc n) (e ∷ es) h = let p = and_parts e.good (is_settled es) h in and_from e.good (list_all (λ (x : Entry (List FrameData)). x.good) (take n es)) p.0 (all-take n es p.1)
-
 -- right entries are accurate
 pub AreAccurate-right : (k : Tokenizing) (budget : ℕ) (lines : List (List ℕ)) (es : List (Entry (List FrameData))) → AreRight k budget (Some []) lines es → AreAccurate k lines es
 AreAccurate-right k budget lines es h = record {
   beside = length-right k budget (Some []) lines es h;
   accurate = λ i lt a. accurate-from_scratch k budget lines es i h lt a;
-  settled = λ s i lt. accurate-from_scratch k budget lines es i h lt (all-take (i + 1) es s);
+  settled = λ s i lt. accurate-from_scratch k budget lines es i h lt (good-settled (i + 1) es s);
 }

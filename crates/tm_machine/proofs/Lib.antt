@@ -1,6 +1,9 @@
 pub mod BirthPlaces
+pub mod BlockedFronts
 pub mod BornTexts
+pub mod DoneLines
 pub mod EntrySteps
+pub mod Fronts
 pub mod PlaceTests
 pub mod ReachedTables
 pub mod RightRuns

@@ -1,5 +1,5 @@
 -- A table that gains only what the front line makes stays within the reach, and a full one shows that the reach is large.
-use Rattle.std.proofs.Common.{◌≡◌, ℕ, zero, suc, ◌<◌, ◌≤◌, Bool, true, false, not, List, [], ◌∷◌, ◌++◌, length, get_or, Option, Some, None, refl, sym, ap, ◌∙◌, subst, inl, inr, ◌⊎◌, arith}
+use Rattle.std.proofs.Common.{◌≡◌, ℕ, zero, suc, ◌<◌, ◌≤◌, true, not, List, [], ◌∷◌, ◌++◌, length, get_or, Option, Some, None, refl, sym, ap, ◌∙◌, subst, inl, inr, ◌⊎◌, arith, append_assoc, append-nil}
 use Rattle.std.specs.Prelude.{Contains}
 use Rattle.std.specs.List.{AllByRecursion}
 use Rattle.std.proofs.lemmas.List.Quantifiers.{position-Some}
@@ -9,12 +9,9 @@ use Rattle.tm_defs.specs.Tables.{Tables, TableEntries, GrowsBy, GrowsWithin, IsN
 use Rattle.tm_machine.specs.declared.entries.Entry.{Entry}
 use Rattle.tm_machine.specs.Entries.{AreRight, start_at, front, blank}
 use Rattle.tm_machine.specs.Machine.{Rules, IsReady, opening}
-use Rattle.tm_machine.specs.Reach.{Stand, stand_after, stands_of, IsMade, ReachesText, ReachesPath, ReachesState, HasMoreThan, ReachesMoreThan, IsWithinReach}
+use Rattle.tm_machine.specs.Reach.{Stand, stand_after, stands_of, IsMadeIn, GainsFrom, GrowsByLines, IsMade, ReachesText, ReachesPath, ReachesState, HasMoreThan, ReachesMoreThan, IsWithinReach}
 use Rattle.tm_machine.specs.Scratch.{Tokenizing, state_from, state_from_scratch}
-
-not-false : (b : Bool) → not b ≡ false → b ≡ true
-not-false true h = refl
-not-false false h = absurd cc
+use Rattle.tm_machine.proofs.Fronts.{not-false}
 
 -- behind good entries there is the state that tokenizing from the first line gives
 start-scratch : (k : Tokenizing) (budget : ℕ) (s : List FrameData) (lines : List (List ℕ)) (es : List (Entry (List FrameData))) (i : ℕ) → AreRight k budget (Some s) lines es → i ≤ length es →
@@ -94,6 +91,70 @@ module _ (r : Rules) (stands : List Stand) (s : Stand) (there : Contains stands 
         paths = every-grown (ReachesPath r stands) made.paths old.paths new.paths (λ x c. inr (front-made (λ m. m.paths) i start line ready x c)) g.paths h.paths;
         states = every-grown (ReachesState r stands) made.states old.states new.states (λ x c. inr (front-made (λ m. m.states) i start line ready x c)) g.states h.states;
       }
+
+module _ (k : Tokenizing) (lines : List (List ℕ)) where
+  gains-none : {X : Type 0} (kind : TableEntries → List X) (xs : List X) → GainsFrom k lines kind xs xs
+  gains-none kind xs = record { added = []; is = sym (append-nil xs); made = tt }
+
+  gains-next : {X : Type 0} (kind : TableEntries → List X) (old mid new : List X) → GainsFrom k lines kind old mid → GainsFrom k lines kind mid new → GainsFrom k lines kind old new
+  gains-next kind old mid new f g = record {
+    added = f.added ++ g.added;
+    is = g.is ∙ ap (λ xs. xs ++ g.added) f.is ∙ append_assoc old f.added g.added;
+    made = every-append (IsMadeIn k lines kind) f.added g.added f.made g.made;
+  }
+
+  -- nothing is gained, and growth upon growth
+  pub grows-none : (old new : Tables) → new ≡ old → GrowsByLines k lines old new
+  grows-none old new same =
+      let P : Tables → Type 0 = λ t. GrowsByLines k lines old t in
+      subst P (sym same) (record {
+        texts = gains-none (λ made. made.texts) old.texts;
+        paths = gains-none (λ made. made.paths) old.paths;
+        states = gains-none (λ made. made.states) old.states;
+        limit = refl;
+      })
+
+  pub grows-next : (old mid new : Tables) → GrowsByLines k lines old mid → GrowsByLines k lines mid new → GrowsByLines k lines old new
+  grows-next old mid new f g = record {
+    texts = gains-next (λ made. made.texts) old.texts mid.texts new.texts f.texts g.texts;
+    paths = gains-next (λ made. made.paths) old.paths mid.paths new.paths f.paths g.paths;
+    states = gains-next (λ made. made.states) old.states mid.states new.states f.states g.states;
+    limit = g.limit ∙ f.limit;
+  }
+
+  -- what the front line of a sound store makes is made by a line of the text
+  pub grows-ready : (budget : ℕ) (es : List (Entry (List FrameData))) (i : ℕ) (start : List FrameData) (line : List ℕ) (old new : Tables) → AreRight k budget opening lines es → IsReady lines es i start line →
+      GrowsWithin (k.entries_made start line) old new → GrowsByLines k lines old new
+  grows-ready budget es i start line old new right ready g = record {
+    texts = gains (λ made. made.texts) old.texts new.texts g.texts;
+    paths = gains (λ made. made.paths) old.paths new.paths g.paths;
+    states = gains (λ made. made.states) old.states new.states g.states;
+    limit = g.limit;
+  }
+    where
+      gains : {X : Type 0} (kind : TableEntries → List X) (before now : List X) → GrowsBy (kind (k.entries_made start line)) before now → GainsFrom k lines kind before now
+      gains {X} kind before now h =
+          let scratch : Some start ≡ Some (state_from_scratch k lines i) = sym ready.begins ∙ front-start k budget lines es i right ready.at_front in
+          let same : start ≡ state_from_scratch k lines i = cc in
+          record {
+            added = h.added;
+            is = h.is;
+            made = every-as (Contains (kind (k.entries_made start line))) (IsMadeIn k lines kind)
+                (λ x c. let Q : List FrameData → Type 0 = λ z. Contains (kind (k.entries_made z line)) x in (i, line, ready.holds, subst Q same c)) h.added h.within;
+          }
+
+-- what lines of a text make stays within the reach of what stood
+pub within-lines : (r : Rules) (stands : List Stand) (s : Stand) (old new : Tables) → Contains stands s → GrowsByLines (r.setting s.epoch) s.lines old new → IsWithinReach r stands old → IsWithinReach r stands new
+within-lines r stands s old new there g h = record {
+  texts = more (λ made. made.texts) (ReachesText r stands) (λ x m. m) old.texts new.texts g.texts h.texts;
+  paths = more (λ made. made.paths) (ReachesPath r stands) (λ x m. inr m) old.paths new.paths g.paths h.paths;
+  states = more (λ made. made.states) (ReachesState r stands) (λ x m. inr m) old.states new.states g.states h.states;
+}
+  where
+    more : {X : Type 0} (kind : TableEntries → List X) (P : X → Type 0) → ((x : X) → IsMade r stands kind x → P x) → (before now : List X) → GainsFrom (r.setting s.epoch) s.lines kind before now → AllByRecursion P before → AllByRecursion P now
+    more {X} kind P f before now gain all =
+        let Q : List X → Type 0 = λ l. AllByRecursion P l in
+        subst Q (sym gain.is) (every-append P before gain.added all (every-as (IsMadeIn (r.setting s.epoch) s.lines kind) P (λ x m. f x (s, m.0, m.1, there, m.2, m.3)) gain.added gain.made))
 
 -- a full table within the reach is the witness that the reach is large
 pub full-reaches : (r : Rules) (stands : List Stand) (t : Tables) (made : TableEntries) (n few : ℕ) → IsNumbering t → IsWithinReach r stands t → few < t.limit → LacksEntry n made t → ReachesMoreThan few r stands

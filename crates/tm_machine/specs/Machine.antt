@@ -1,6 +1,6 @@
 -- The machine of births: what the steps of the service do to a text and to what is kept of its lines.
 -- It is the foreground alone here; the worker, the orders and the batches come beside it.
-use Rattle.std.specs.Prelude.{◌≡◌, ℕ, suc, ◌<◌, ◌⊎◌, true, false, List, [], ◌∷◌, map, Option, Some, None, slice_get}
+use Rattle.std.specs.Prelude.{◌≡◌, ℕ, suc, ◌-◌, ◌<◌, ◌⊎◌, true, false, List, [], ◌∷◌, length, map, Option, Some, None, slice_get}
 use Rattle.tm_defs.specs.declared.changes.Change.{Change}
 use Rattle.tm_defs.specs.declared.events.Step.{Step}
 use Rattle.tm_defs.specs.declared.events.Step.TheVariants as step
@@ -9,9 +9,9 @@ use Rattle.tm_defs.specs.declared.events.Turn.TheVariants.{Done, Idle, Blocked}
 use Rattle.tm_defs.specs.declared.frames.FrameData.{FrameData}
 use Rattle.tm_machine.specs.declared.entries.Entry.{Entry}
 use Rattle.tm_machine.specs.Changes.{BornText, changed, opened, effect_of}
-use Rattle.tm_machine.specs.Entries.{blank, block, blocked_at, front, replaced, start_at, stored, AreAccurate}
+use Rattle.tm_machine.specs.Entries.{blank, block, blocked_at, front, is_accurate, replaced, start_at, stored, AreAccurate}
 use Rattle.tm_machine.specs.Places.{IsIn}
-use Rattle.tm_machine.specs.Scratch.{Tokenizing}
+use Rattle.tm_machine.specs.Scratch.{Tokenizing, state_from_scratch}
 
 -- what each setting makes of lines, how many settings there are, and the budget of a line
 pub record Rules : Type 0 where
@@ -32,6 +32,7 @@ pub record Machine : Type 0 where
 pub data Answer : Type 0 where
   Edited : (version : ℕ) → Answer
   Lined : (turn : Turn) → Answer
+  Forced : (done : ℕ) (blocked : Option ℕ) → Answer
 
 abbrev pub opening : Option (List FrameData)
 opening = Some []
@@ -54,6 +55,12 @@ pub record IsReady (lines : List (List ℕ)) (es : List (Entry (List FrameData))
   pub begins : start_at opening es i ≡ Some start
   pub holds : slice_get lines i ≡ Some line
 
+-- the front is line i, it is blocked, and its line costs more than the budget from its state from scratch
+pub record IsBlockedFront (k : Tokenizing) (budget : ℕ) (lines : List (List ℕ)) (es : List (Entry (List FrameData))) (i : ℕ) : Type 0 where
+  pub at_front : front es ≡ Some i
+  pub blocked : blocked_at es i ≡ true
+  pub costs : (line : List ℕ) × (slice_get lines i ≡ Some line) × (budget < k.plain_cost (state_from_scratch k lines i) line)
+
 -- a turn on the front: its line is done or newly blocked. Where the cost exceeds the budget either may come
 abbrev pub Turns : Tokenizing → ℕ → List (List ℕ) → List (Entry (List FrameData)) → Turn → List (Entry (List FrameData)) → Type 0
 Turns k budget lines es Idle after = (front es ≡ None) × (after ≡ es)
@@ -62,12 +69,34 @@ Turns k budget lines es (Blocked i) after =
     ((front es ≡ Some i) × (blocked_at es i ≡ true) × (after ≡ es))
     ⊎ ((start : List FrameData) × (line : List ℕ) × IsReady lines es i start line × (budget < k.plain_cost start line) × (after ≡ block es i))
 
+-- turns that each do a line, as long as not every line up to the last one is good: the lines done, in order
+abbrev pub DoesLines : Tokenizing → ℕ → List (List ℕ) → (last : ℕ) → List (Entry (List FrameData)) → (done : List ℕ) → List (Entry (List FrameData)) → Type 0
+DoesLines k budget lines last es [] after = after ≡ es
+DoesLines k budget lines last es (i ∷ done) after =
+    (is_accurate es last ≡ false) × ((mid : List (Entry (List FrameData))) × Turns k budget lines es (Done i) mid × DoesLines k budget lines last mid done after)
+
+-- then no line is to be done: every line up to the last one is good, or the front is blocked
+abbrev pub Rests : Tokenizing → ℕ → List (List ℕ) → (last : ℕ) → List (Entry (List FrameData)) → (blocked : Option ℕ) → List (Entry (List FrameData)) → Type 0
+Rests k budget lines last es None after = (is_accurate es last ≡ true) × (after ≡ es)
+Rests k budget lines last es (Some i) after = (is_accurate es last ≡ false) × Turns k budget lines es (Blocked i) after
+
+-- turns are repeated until every line up to the last one is good or a turn answers Blocked
+pub record Forces (k : Tokenizing) (budget : ℕ) (lines : List (List ℕ)) (last : ℕ) (es : List (Entry (List FrameData))) (count : ℕ) (blocked : Option ℕ) (after : List (Entry (List FrameData))) : Type 0 where
+  pub done : List ℕ
+  pub behind : List (Entry (List FrameData))
+  pub does : DoesLines k budget lines last es done behind
+  pub counts : count ≡ length done
+  pub rests : Rests k budget lines last behind blocked after
+
 -- one step: from m the machine may answer so and go on to n
 abbrev pub Steps : Rules → Machine → Step → Answer → Machine → Type 0
 Steps r m (step.Edit c) (Edited version) n =
     IsIn m.fore.text.lines c × (version ≡ suc m.fore.text.version) × (n ≡ record m { fore = edited m.fore c })
 Steps r m step.Line (Lined turn) n =
     (es : List (Entry (List FrameData))) × Turns (r.setting m.fore.epoch) r.budget m.fore.text.lines m.fore.entries turn es
+    × (n ≡ record m { fore = record (m.fore) { entries = es } })
+Steps r m step.Settle (Forced done blocked) n =
+    (es : List (Entry (List FrameData))) × Forces (r.setting m.fore.epoch) r.budget m.fore.text.lines (length m.fore.text.lines - 1) m.fore.entries done blocked es
     × (n ≡ record m { fore = record (m.fore) { entries = es } })
 Steps r m _ _ n = ⊥
 

@@ -1,6 +1,6 @@
 -- What the lines of the texts that stood reach: the texts, scope lists and states that tokenizing
 -- them from their first lines makes.
-use Rattle.std.specs.Prelude.{◌≡◌, ◌⊎◌, ℕ, ◌<◌, List, [], ◌∷◌, length, Some, slice_get, Contains}
+use Rattle.std.specs.Prelude.{◌≡◌, ◌⊎◌, ℕ, ◌<◌, List, [], ◌∷◌, ◌++◌, length, Some, slice_get, Contains}
 use Rattle.std.specs.List.{AllByRecursion}
 use Rattle.tm_defs.specs.declared.events.Step.{Step}
 use Rattle.tm_defs.specs.declared.events.Step.TheVariants as step
@@ -8,7 +8,7 @@ use Rattle.tm_defs.specs.declared.frames.FrameData.{FrameData}
 use Rattle.tm_defs.specs.Tables.{Tables, TableEntries, NoneTwice}
 use Rattle.tm_machine.specs.Changes.{lines_changed}
 use Rattle.tm_machine.specs.Machine.{Rules, Machine}
-use Rattle.tm_machine.specs.Scratch.{state_from_scratch}
+use Rattle.tm_machine.specs.Scratch.{Tokenizing, state_from_scratch}
 
 -- lines, with the number of the setting that stands beside them
 pub record Stand : Type 0 where
@@ -60,3 +60,20 @@ pub record IsWithinReach (r : Rules) (stands : List Stand) (t : Tables) : Type 0
   pub texts : AllByRecursion (ReachesText r stands) t.texts
   pub paths : AllByRecursion (ReachesPath r stands) t.paths
   pub states : AllByRecursion (ReachesState r stands) t.states
+
+-- an entry of one kind is made by a line of this text, from its state from scratch
+abbrev pub IsMadeIn : {X : Type 0} → Tokenizing → List (List ℕ) → (TableEntries → List X) → X → Type 0
+IsMadeIn k lines kind x = (i : ℕ) × (line : List ℕ) × (slice_get lines i ≡ Some line) × Contains (kind (k.entries_made (state_from_scratch k lines i) line)) x
+
+-- what was there stays where it was, and what came is made by lines of this text
+pub record GainsFrom {X : Type 0} (k : Tokenizing) (lines : List (List ℕ)) (kind : TableEntries → List X) (old new : List X) : Type 0 where
+  pub added : List X
+  pub is : new ≡ old ++ added
+  pub made : AllByRecursion (IsMadeIn k lines kind) added
+
+-- the tables gain nothing but what lines of this text make
+pub record GrowsByLines (k : Tokenizing) (lines : List (List ℕ)) (old new : Tables) : Type 0 where
+  pub texts : GainsFrom k lines (λ made. made.texts) old.texts new.texts
+  pub paths : GainsFrom k lines (λ made. made.paths) old.paths new.paths
+  pub states : GainsFrom k lines (λ made. made.states) old.states new.states
+  pub limit : new.limit ≡ old.limit

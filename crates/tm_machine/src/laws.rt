@@ -1,14 +1,15 @@
 //! Laws of the definitions. Each function is a theorem: its contract is the law.
-ghost use Rattle.std.specs.Prelude.{◌≡◌, ◌<◌, ℕ, List, Some, None, length, slice_get};
+ghost use Rattle.std.specs.Prelude.{◌≡◌, ◌≢◌, ◌<◌, ◌≤◌, ◌-◌, ℕ, true, List, Some, None, length, nat_lt, All, Contains, slice_get};
+ghost use Rattle.std.specs.List.Sorted.{IsStrictlyIncreasing};
 ghost use Rattle.tm_defs.specs.declared.changes.Change.{Change};
 ghost use Rattle.tm_defs.specs.declared.changes.Place.{Place};
 ghost use Rattle.tm_defs.specs.declared.events.Step.{Step};
 ghost use Rattle.tm_machine.specs.Changes.{BornText, IsBorn, AreIn, changed, changed_by, effects_of, opened, line_after, lines_of, HaveNoBreak};
 ghost use Rattle.tm_machine.specs.Births.{Birth, place_of};
-ghost use Rattle.tm_machine.specs.Entries.{AreRight, AreAccurate, front, start_at};
-ghost use Rattle.tm_machine.specs.Machine.{Rules, Machine, Answer, Runs, IsAccurate, machine_of, opening};
+ghost use Rattle.tm_machine.specs.Entries.{AreRight, AreAccurate, blocked_at, front, is_accurate, start_at};
+ghost use Rattle.tm_machine.specs.Machine.{Rules, Machine, Answer, DoesLines, Forces, IsBlockedFront, Runs, IsAccurate, machine_of, opening};
 ghost use Rattle.tm_machine.specs.Places.{IsIn, bad_place};
-ghost use Rattle.tm_machine.specs.Reach.{Stand, IsWithinReach, ReachesMoreThan};
+ghost use Rattle.tm_machine.specs.Reach.{Stand, GrowsByLines, IsWithinReach, ReachesMoreThan};
 ghost use Rattle.tm_machine.specs.Scratch.{Tokenizing, state_from_scratch};
 ghost use Rattle.tm_defs.specs.Tables.{Tables, TableEntries, IsNumbering, LacksEntry};
 ghost use Rattle.tm_machine.specs.declared.entries.Entry.{Entry};
@@ -51,10 +52,34 @@ pub fn every_run_is_accurate()
     ensures { (r : Rules) (lines : List (List ℕ)) (xs : List (Step × Answer)) (m : Machine) → Runs r (machine_of lines) xs m → IsAccurate r m }
 {}
 
+/// A line is accurate exactly where it stands before the front; without a front every line is.
+pub fn accurate_lines_stand_before_the_front()
+    ensures front { (es : List (Entry (List FrameData))) (i f : ℕ) → front es ≡ Some f → is_accurate es i ≡ nat_lt i f }
+    ensures none { (es : List (Entry (List FrameData))) (i : ℕ) → front es ≡ None → is_accurate es i ≡ true }
+{}
+
+/// Lines that are done one after another rise, so none is done twice, and none is behind the last
+/// line or the text. A good line whose start is the same behind them is not among them.
+pub fn lines_are_done_once()
+    ensures rising { (k : Tokenizing) (budget : ℕ) (lines : List (List ℕ)) (last : ℕ) (es : List (Entry (List FrameData))) (done : List ℕ) (after : List (Entry (List FrameData))) → DoesLines k budget lines last es done after → IsStrictlyIncreasing done }
+    ensures within { (k : Tokenizing) (budget : ℕ) (lines : List (List ℕ)) (last : ℕ) (es : List (Entry (List FrameData))) (done : List ℕ) (after : List (Entry (List FrameData))) → DoesLines k budget lines last es done after → All (λ i. (i < length es) × (i ≤ last)) done }
+    ensures few { (k : Tokenizing) (budget : ℕ) (lines : List (List ℕ)) (last : ℕ) (es : List (Entry (List FrameData))) (done : List ℕ) (after : List (Entry (List FrameData))) → DoesLines k budget lines last es done after → length done ≤ length es }
+    ensures kept { (k : Tokenizing) (budget : ℕ) (lines : List (List ℕ)) (last : ℕ) (es : List (Entry (List FrameData))) (done : List ℕ) (after : List (Entry (List FrameData))) (i : ℕ) (e : Entry (List FrameData)) → DoesLines k budget lines last es done after → slice_get es i ≡ Some e → e.good ≡ true → start_at opening es i ≡ start_at opening after i → ¬ Contains done i }
+{}
+
+/// A front that is blocked costs more than the budget from its state from scratch, so what ends a
+/// run early has that cause. A run to the last line that blocks none leaves no front.
+pub fn runs_end_for_a_cause()
+    ensures front { (k : Tokenizing) (budget : ℕ) (lines : List (List ℕ)) (es : List (Entry (List FrameData))) (i : ℕ) → AreRight k budget opening lines es → front es ≡ Some i → blocked_at es i ≡ true → IsBlockedFront k budget lines es i }
+    ensures blocked { (k : Tokenizing) (budget : ℕ) (lines : List (List ℕ)) (last : ℕ) (es : List (Entry (List FrameData))) (count i : ℕ) (after : List (Entry (List FrameData))) → AreRight k budget opening lines es → Forces k budget lines last es count (Some i) after → IsBlockedFront k budget lines after i }
+    ensures all { (k : Tokenizing) (budget : ℕ) (lines : List (List ℕ)) (es : List (Entry (List FrameData))) (count : ℕ) (after : List (Entry (List FrameData))) → length es ≡ length lines → Forces k budget lines (length lines - 1) es count None after → front after ≡ None }
+{}
+
 /// A table that holds only what is reached, and is full for a line, shows that the reach has more
 /// entries of one kind than any number below the table's limit. What the front line makes of a sound
-/// store is reached.
+/// store is reached, and so is what lines of a text that stood make.
 pub fn full_tables_show_a_large_reach()
     ensures full { (r : Rules) (stands : List Stand) (t : Tables) (made : TableEntries) (n few : ℕ) → IsNumbering t → IsWithinReach r stands t → few < t.limit → LacksEntry n made t → ReachesMoreThan few r stands }
     ensures front { (k : Tokenizing) (budget : ℕ) (lines : List (List ℕ)) (es : List (Entry (List FrameData))) (i : ℕ) → AreRight k budget opening lines es → front es ≡ Some i → start_at opening es i ≡ Some (state_from_scratch k lines i) }
+    ensures grown { (r : Rules) (stands : List Stand) (s : Stand) (old new : Tables) → Contains stands s → GrowsByLines (r.setting s.epoch) s.lines old new → IsWithinReach r stands old → IsWithinReach r stands new }
 {}

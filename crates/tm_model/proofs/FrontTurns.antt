@@ -91,6 +91,10 @@ module _ {T P : Type 0} (plain : T → P) (tokenized : P → List FrameData → 
     setting = slice_get-map plain settings epoch ∙ ap (option_map plain) by;
   }
 
+  -- the front by number
+  pub front-here : (settings : List T) (epoch version budget : ℕ) (lines : List (List ℕ)) (es : List (Entry StateId)) (t : Tables) (now : Held T) (i : ℕ) → held_of settings epoch version budget lines es t ≡ now → front now.entries ≡ Some i → front es ≡ Some i
+  front-here settings epoch version budget lines es t now i is at = sym (front-map t es) ∙ ap (λ (h : Held T). front h.entries) is ∙ at
+
   abbrev by : P → Tokenizing
   by p = tokenizing_of tokenized plain_cost entries_made (Some p)
 

@@ -1,6 +1,7 @@
 pub mod ByLink
 pub mod ChangedModels
 pub mod EntryLists
+pub mod ForcedRuns
 pub mod FrontTurns
 pub mod KnownEnds
 pub mod LineReads

@@ -1,12 +1,15 @@
 //! The model of a text: its lines, and what is kept of each.
-ghost use Rattle.std.specs.Prelude.{◌≡◌, ℕ, suc, ◌+◌, ◌<◌, ◌-◌, ◌^◌, IsTrue, IfOk, IfErr, OnOk, OnErr, All, Some, length, vec_len, map, slice_get};
+ghost use Rattle.std.specs.Prelude.{◌≡◌, ℕ, suc, ◌+◌, ◌<◌, ◌-◌, ◌^◌, IsTrue, IfOk, IfErr, IfSome, OnOk, OnErr, All, List, Some, None, length, vec_len, map, slice_get};
 ghost use Rattle.std.specs.Arc.{arc_value};
 ghost use Rattle.tm_defs.specs.Tables.{IsNumbering};
+ghost use Rattle.tm_defs.specs.declared.frames.FrameData.{FrameData};
+ghost use Rattle.tm_machine.specs.declared.entries.Entry.{Entry};
 ghost use Rattle.tm_machine.specs.Entries.{front, is_accurate, AreAccurate, IsFromScratch};
-ghost use Rattle.tm_machine.specs.Machine.{Turns};
+ghost use Rattle.tm_machine.specs.Machine.{Turns, Forces, IsBlockedFront};
 ghost use Rattle.tm_machine.specs.Places.{IsIn};
+ghost use Rattle.tm_machine.specs.Reach.{GrowsByLines};
 ghost use Rattle.tm_model.specs.Held.{Held, IsSound, with_state, new_model, changed_model, last_version, setting_now, GrowsAtFront, IsTurnCause, IsChangeCause};
-ghost use Rattle.tm_model.specs.Turns.{turn_ticks};
+ghost use Rattle.tm_model.specs.Turns.{turn_ticks, IsRun};
 
 use crate::numbering::Numbering;
 use crate::replaced::replace_range;
@@ -26,6 +29,14 @@ use tm_machine::entries::Entry;
 
 /// The version behind which no change is taken.
 pub const LAST_VERSION: u32 = 0x7fff_ffff;
+
+/// What a run of lines did: how many lines were done, and the line at which the run ended early
+/// since it costs more than the budget.
+#[derive(Clone, Copy, Debug, PartialEq, Eq)]
+pub struct Forced {
+    pub done: u32,
+    pub blocked: Option<u32>,
+}
 
 /// A text that is tokenized line by line, by one setting of a list. Lines count from 0; `budget` is
 /// in steps of plain search a line; the epoch is the number of the setting.
@@ -157,9 +168,73 @@ impl<'a, T: LineTok> Model<'a, T> {
         ensures cause { IfErr result (IsTurnCause (setting_now T.plain T.tokenized T.plain_cost T.entries_made self.old) self.old.lines self.old.entries self.new.tables) }
         ensures ticks { steps.new ≡ steps.old + turn_ticks self.old.entries }
     {
-        let Some(i) = entries::front_of(self.entries.as_slice()) else {
-            return Ok(Turn::Idle);
-        };
+        match self.front() {
+            Some(i) => self.turn_at(i, steps),
+            None => Ok(Turn::Idle),
+        }
+    }
+
+    /// Tokenizes line after line, from the first that is not good on, until all are good or one costs
+    /// more than the budget. No line is done twice. After a refusal the lines that were done stay done.
+    pub fn settle<L: Ledger>(&mut self, steps: &mut Steps<L>) -> Result<Forced, TableFault>
+        ensures settled { IfOk result (λ forced. Forces (setting_now T.plain T.tokenized T.plain_cost T.entries_made self.old) self.old.budget self.old.lines (length self.old.lines - 1) self.old.entries forced.done forced.blocked self.new.entries) }
+        ensures ticks { IfOk result (λ forced. (behind : List (Entry (List FrameData))) × IsRun (setting_now T.plain T.tokenized T.plain_cost T.entries_made self.old) self.old.budget self.old.lines (length self.old.lines - 1) self.old.entries forced.done steps.old steps.new behind) }
+        ensures refused { OnErr result ((count : ℕ) × IsRun (setting_now T.plain T.tokenized T.plain_cost T.entries_made self.old) self.old.budget self.old.lines (length self.old.lines - 1) self.old.entries count steps.old steps.new self.new.entries) }
+        ensures others { self.new ≡ record self.old { entries = self.new.entries; tables = self.new.tables } }
+        ensures grows { GrowsByLines (setting_now T.plain T.tokenized T.plain_cost T.entries_made self.old) self.old.lines self.old.tables self.new.tables }
+        ensures cause { IfErr result (IsTurnCause (setting_now T.plain T.tokenized T.plain_cost T.entries_made self.old) self.old.lines self.new.entries self.new.tables) }
+        ensures all { IfOk result (λ forced. forced.blocked ≡ None → front self.new.entries ≡ None) }
+        ensures blocked { IfOk result (λ forced. IfSome forced.blocked (λ i. IsBlockedFront (setting_now T.plain T.tokenized T.plain_cost T.entries_made self.old) self.old.budget self.old.lines self.new.entries i)) }
+    {
+        self.sound();
+        self.force(self.len() - 1, steps)
+    }
+
+    /// Tokenizes line after line until every line up to this one is good. A line that is done can make
+    /// none before it bad, so the lines are passed once.
+    fn force<L: Ledger>(&mut self, last: u32, steps: &mut Steps<L>) -> Result<Forced, TableFault>
+        requires { last < length self.old.entries }
+        ensures settled { IfOk result (λ forced. Forces (setting_now T.plain T.tokenized T.plain_cost T.entries_made self.old) self.old.budget self.old.lines last self.old.entries forced.done forced.blocked self.new.entries) }
+        ensures ticks { IfOk result (λ forced. (behind : List (Entry (List FrameData))) × IsRun (setting_now T.plain T.tokenized T.plain_cost T.entries_made self.old) self.old.budget self.old.lines last self.old.entries forced.done steps.old steps.new behind) }
+        ensures refused { OnErr result ((count : ℕ) × IsRun (setting_now T.plain T.tokenized T.plain_cost T.entries_made self.old) self.old.budget self.old.lines last self.old.entries count steps.old steps.new self.new.entries) }
+        ensures others { self.new ≡ record self.old { entries = self.new.entries; tables = self.new.tables } }
+        ensures grows { GrowsByLines (setting_now T.plain T.tokenized T.plain_cost T.entries_made self.old) self.old.lines self.old.tables self.new.tables }
+        ensures cause { IfErr result (IsTurnCause (setting_now T.plain T.tokenized T.plain_cost T.entries_made self.old) self.old.lines self.new.entries self.new.tables) }
+    {
+        self.sound();
+        let mut done = 0;
+        for i in 0..last + 1 {
+            if self.entry(i).good {
+                continue;
+            }
+            match self.turn_at(i, steps) {
+                Ok(Turn::Blocked(line)) => {
+                    return Ok(Forced {
+                        done,
+                        blocked: Some(line),
+                    });
+                }
+                Ok(Turn::Done(_)) => done += 1,
+                Ok(Turn::Idle) => unreachable!(),
+                Err(fault) => return Err(fault),
+            }
+        }
+        Ok(Forced {
+            done,
+            blocked: None,
+        })
+    }
+
+    /// A turn on this line, which is the front.
+    fn turn_at<L: Ledger>(&mut self, i: u32, steps: &mut Steps<L>) -> Result<Turn, TableFault>
+        requires { front self.old.entries ≡ Some i }
+        ensures turn { IfOk result (λ turn. Turns (setting_now T.plain T.tokenized T.plain_cost T.entries_made self.old) self.old.budget self.old.lines self.old.entries turn self.new.entries) }
+        ensures others { self.new ≡ record self.old { entries = self.new.entries; tables = self.new.tables } }
+        ensures grows { GrowsAtFront (setting_now T.plain T.tokenized T.plain_cost T.entries_made self.old) self.old.lines self.old.entries self.old.tables self.new.tables }
+        ensures err { OnErr result (self.new.entries ≡ self.old.entries) }
+        ensures cause { IfErr result (IsTurnCause (setting_now T.plain T.tokenized T.plain_cost T.entries_made self.old) self.old.lines self.old.entries self.new.tables) }
+        ensures ticks { steps.new ≡ steps.old + turn_ticks self.old.entries }
+    {
         if entries::is_blocked(self.entries.as_slice(), i as usize) {
             return Ok(Turn::Blocked(i));
         }

@@ -4,7 +4,7 @@ ghost use Rattle.tm_machine.specs.Entries.{IsFromScratch};
 ghost use Rattle.tm_model.specs.Held.{setting_now};
 
 use crate::lines::{LINES_BOUND, are_short, split};
-use crate::model::Model;
+use crate::model::{Forced, Model};
 use crate::numbering::Numbering;
 use std::alloc::Global;
 use std::marker::Brand;
@@ -153,8 +153,33 @@ fn entry_of<T: LineTok>(model: &Model<T>, i: u32) -> (Option<u32>, Option<StateI
 #[derive(Clone, Copy)]
 enum Act<'a> {
     Line(Turn),
+    Settle(Result<Forced, TableFault>),
     /// Columns of line 1 are replaced; the version behind it.
     Edit(u32, u32, &'a [char], u32),
+}
+
+/// A settle that does so many lines, and ends at a line that costs too much.
+fn settled<'a>(done: u32, blocked: Option<u32>) -> Act<'a> {
+    Act::Settle(Ok(Forced { done, blocked }))
+}
+
+/// Does a step, and compares its answer.
+fn do_act<T: LineTok, L: Ledger>(
+    rt: &impl Abort,
+    alloc: Global,
+    model: &mut Model<T>,
+    act: Act,
+    steps: &mut Steps<L>,
+) -> Result<(), Fail> {
+    match act {
+        Act::Line(turn) => assert_eq!(rt; model.line(steps), Ok(turn)),
+        Act::Settle(answer) => assert_eq!(rt; model.settle(steps), answer),
+        Act::Edit(from, to, text, version) => {
+            let change = change_of(alloc, 1, from, to, text)?;
+            assert_eq!(rt; model.change(&change), Ok(version));
+        }
+    }
+    Ok(())
 }
 
 fn turns_and_changes<L: Ledger>(rt: &impl Abort, alloc: Global, blank: Blank) -> Result<(), Fail>
@@ -180,17 +205,35 @@ fn turns_and_changes<L: Ledger>(rt: &impl Abort, alloc: Global, blank: Blank) ->
         (Act::Line(Turn::Done(1)), Some(2), (Some(0), one)),
     ];
     for (act, front, entry) in rows {
-        match act {
-            Act::Line(turn) => assert_eq!(rt; model.line(&mut steps), Ok(turn)),
-            Act::Edit(from, to, text, version) => {
-                let change = change_of(alloc, 1, from, to, text)?;
-                assert_eq!(rt; model.change(&change), Ok(version));
-            }
-        }
+        do_act(rt, alloc, &mut model, act, &mut steps)?;
         assert_eq!(rt; (model.front(), entry_of(&model, 1)), (front, entry));
     }
     assert!(rt; is_accurate(&model, 1) && !is_accurate(&model, 2) && is_text(&model, 1, &[]));
     assert_eq!(rt; (model.version(), model.epoch()), (3, 0));
+    Ok(())
+}
+
+/// Does steps on the small text, and compares the front behind each.
+fn acts<L: Ledger>(
+    rt: &impl Abort,
+    alloc: Global,
+    blank: Blank,
+    budget: u64,
+    limit: u32,
+    rows: &[(Act, Option<u32>)],
+) -> Result<(), Fail>
+    requires name { blank.name ≡ L.name }
+    requires parts { blank.parts ≡ L.parts }
+    requires some { 0 < blank.parts }
+    requires limit { 0 < limit }
+{
+    let settings = [Small { alloc }];
+    let mut steps = Steps::<L>::new(blank);
+    let mut model = small_model(alloc, &settings, &TEXT, budget, limit)?;
+    for (act, front) in rows {
+        do_act(rt, alloc, &mut model, *act, &mut steps)?;
+        assert_eq!(rt; model.front(), *front);
+    }
     Ok(())
 }
 
@@ -227,6 +270,43 @@ fn turns(rt: HostRuntime) -> Result<(), Fail> {
     for (budget, limit, want) in rows {
         let got = two_turns::<Brand>(alloc, Blank::new(1), budget, limit)?;
         assert_eq!(rt; got, want, "at {budget} and {limit}");
+    }
+    Ok(())
+}
+
+#[test]
+fn settles(rt: HostRuntime) -> Result<(), Fail> {
+    let full = Act::Settle(Err(TableFault::TableFull(2)));
+    let (longer, shorter) = (Act::Edit(0, 0, &['x', 'y'], 1), Act::Edit(1, 2, &[], 2));
+    let rows: [(u64, u32, &[(Act, Option<u32>)]); 3] = [
+        (
+            1000,
+            8,
+            &[
+                (Act::Line(Turn::Done(0)), Some(1)),
+                (settled(2, None), None),
+                (settled(0, None), None),
+                (longer, Some(1)),
+                (settled(2, None), None),
+                (shorter, Some(1)),
+                (settled(1, None), None),
+            ],
+        ),
+        (
+            1,
+            8,
+            &[
+                (longer, Some(0)),
+                (settled(1, Some(1)), Some(1)),
+                (settled(0, Some(1)), Some(1)),
+                (shorter, Some(1)),
+                (settled(2, None), None),
+            ],
+        ),
+        (1000, 2, &[(full, Some(2)), (full, Some(2))]),
+    ];
+    for (budget, limit, wanted) in rows {
+        acts::<Brand>(&rt, rt.alloc(), Blank::new(1), budget, limit, wanted)?;
     }
     Ok(())
 }
