@@ -1,5 +1,5 @@
 -- A run over a grammar, from a new model on.
-use Rattle.std.proofs.Common.{◌≡◌, ℕ, List, [], ◌∷◌, map, Bool, Option, sym, subst}
+use Rattle.std.proofs.Common.{◌≡◌, ℕ, List, [], ◌∷◌, map, Bool, Option, sym, ◌∙◌, subst}
 use Rattle.tm_forms.specs.declared.script.Scripted.{Scripted}
 use Rattle.tm_line.specs.Setting.{Setting, BuiltSetting, setting_data}
 use Rattle.tm_line.specs.Tokenizing.{rules_tokenized, rules_cost, rules_made}
@@ -11,6 +11,7 @@ use Rattle.tm_app.specs.declared.play.Fault.{Fault}
 use Rattle.tm_app.specs.Outcome.{LinesPlay, LinesStop, SetupPlays, SetupStops, grammar_rules}
 use Rattle.tm_app.specs.Setup.{SetupData}
 use Rattle.tm_app.specs.Stands.{Stands, IsReached, AllDone, AllStopped, table_limit}
+use Rattle.tm_app.proofs.CostlyLines.{costly-lines}
 use Rattle.tm_app.proofs.StandSteps.{new-stands, new-reached}
 
 module _ (settings : List BuiltSetting) (budget : ℕ) (lines : List (List ℕ)) (held : Held BuiltSetting) (is : held ≡ new_model settings budget table_limit lines) where
@@ -25,7 +26,10 @@ module _ (settings : List BuiltSetting) (budget : ℕ) (lines : List (List ℕ))
       subst Q (sym is) (new-reached setting_data rules_tokenized rules_cost rules_made settings budget lines (grammar_rules (map setting_data settings) budget) (stand_in (machine_of lines) ∷ []))
 
   pub lines-play : (steps : List Scripted) (a b : Option (List ℕ)) (seen : Bool) → AllDone setting_data rules_tokenized rules_cost rules_made held steps a b seen → LinesPlay (map setting_data settings) budget lines steps a b seen
-  lines-play steps a b seen h = h (grammar_rules (map setting_data settings) budget) (machine_of lines) stands reached
+  lines-play steps a b seen h =
+      let r = grammar_rules (map setting_data settings) budget in
+      let did = h r (machine_of lines) stands reached in
+      (did.0, did.1, did.2, did.3, did.4, λ is. costly-lines r lines did.1 steps did.0 did.2 (did.4 ∙ is))
 
   pub lines-stop : (steps : List Scripted) (a b : Option (List ℕ)) (f g : ℕ) (fault : Fault) → AllStopped setting_data rules_tokenized rules_cost rules_made held steps a b f g fault → LinesStop (map setting_data settings) budget lines steps a b f g fault
   lines-stop steps a b f g fault h = h (grammar_rules (map setting_data settings) budget) (machine_of lines) stands reached

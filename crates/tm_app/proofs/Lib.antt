@@ -1,5 +1,6 @@
 pub mod Commands
 pub mod Completes
+pub mod CostlyLines
 pub mod GrammarRuns
 pub mod Loads
 pub mod Outcomes

@@ -66,19 +66,19 @@ step-stand r m n step.Settle (Forced done blocked) d = ap stand_in d.2
 step-stand r m n _ _ d = absurd d
 
 -- what stood behind a step, and then the steps behind it
-step-first : (r : Rules) (m mid n : Machine) (s : ScriptStep) (xs : List Scripted) (bytes : List ℕ) → Prints r m s bytes mid → Contains (stands_of (stand_in mid) (machine_steps xs)) (stand_in n) → Contains (stands_of (stand_in m) (step_of s ++ machine_steps xs)) (stand_in n)
-step-first r m mid n (Core s) xs bytes d rest =
-    let P : Stand → Type 0 = λ z. Contains (stands_of z (machine_steps xs)) (stand_in n) in
-    stands-later (stand_in m) s (machine_steps xs) (stand_in n) (subst P (step-stand r m mid s d.0 d.1) rest)
-step-first r m mid n SettleQuietly xs bytes d rest =
-    let P : Stand → Type 0 = λ z. Contains (stands_of z (machine_steps xs)) (stand_in n) in
-    stands-later (stand_in m) step.Settle (machine_steps xs) (stand_in n) (subst P (step-stand r m mid step.Settle d.0 d.1) rest)
-step-first r m mid n Show xs bytes d rest = let P : Machine → Type 0 = λ z. Contains (stands_of (stand_in z) (machine_steps xs)) (stand_in n) in subst P d.0 rest
+pub step-first : (r : Rules) (m mid : Machine) (z : Stand) (s : ScriptStep) (xs : List Scripted) (bytes : List ℕ) → Prints r m s bytes mid → Contains (stands_of (stand_in mid) (machine_steps xs)) z → Contains (stands_of (stand_in m) (step_of s ++ machine_steps xs)) z
+step-first r m mid z (Core s) xs bytes d rest =
+    let P : Stand → Type 0 = λ y. Contains (stands_of y (machine_steps xs)) z in
+    stands-later (stand_in m) s (machine_steps xs) z (subst P (step-stand r m mid s d.0 d.1) rest)
+step-first r m mid z SettleQuietly xs bytes d rest =
+    let P : Stand → Type 0 = λ y. Contains (stands_of y (machine_steps xs)) z in
+    stands-later (stand_in m) step.Settle (machine_steps xs) z (subst P (step-stand r m mid step.Settle d.0 d.1) rest)
+step-first r m mid z Show xs bytes d rest = let P : Machine → Type 0 = λ y. Contains (stands_of (stand_in y) (machine_steps xs)) z in subst P d.0 rest
 
 -- where a run ends is among what stood
 pub plays-stand : (r : Rules) (m n : Machine) (xs : List Scripted) (bytes : List ℕ) → Plays r m xs bytes n → Contains (stands_of (stand_in m) (machine_steps xs)) (stand_in n)
 plays-stand r m n [] bytes p = let P : Machine → Type 0 = λ z. Contains (stands_of (stand_in m) []) (stand_in z) in subst P (sym p.1) (stands-first (stand_in m) [])
-plays-stand r m n (x ∷ xs) bytes p = step-first r m p.0 n x.step xs p.1 p.4 (plays-stand r p.0 n xs p.2 p.5)
+plays-stand r m n (x ∷ xs) bytes p = step-first r m p.0 (stand_in n) x.step xs p.1 p.4 (plays-stand r p.0 n xs p.2 p.5)
 
 module _ (r : Rules) where
   first : (m mid n : Machine) (x : Scripted) (more : List ℕ) → mid ≡ m → Prints r mid x.step more n → Prints r m x.step more n

@@ -5,6 +5,7 @@ use Rattle.tm_line.specs.Setting.{Setting}
 use Rattle.tm_line.specs.Tokenizing.{rules_tokenized, rules_cost, rules_made}
 use Rattle.tm_machine.specs.Changes.{lines_of}
 use Rattle.tm_machine.specs.Machine.{Rules, Machine, machine_of}
+use Rattle.tm_machine.specs.Reach.{stand_in, stands_of}
 use Rattle.tm_machine.specs.Settings.{rules_of}
 use Rattle.tm_outside.specs.Causes.{Takes}
 use Rattle.tm_app.specs.Setup.{SetupData}
@@ -13,10 +14,10 @@ use Rattle.tm_app.specs.declared.play.Fault.TheVariants as fault
 use Rattle.tm_app.specs.declared.status.What.TheVariants.{NotYet, BadPlace}
 use Rattle.tm_app.specs.declared.status.Status.{Status}
 use Rattle.tm_app.specs.declared.status.Status.TheVariants.{Ok, Usage, FileFault, Refused, SinkFault, OutOfMemory, BudgetSeen, TableFull}
-use Rattle.tm_app.specs.Play.{Plays}
+use Rattle.tm_app.specs.Play.{Plays, machine_steps}
 use Rattle.tm_app.specs.Printed.{tells_blocked}
 use Rattle.tm_app.specs.Reading.{Names, IsCommand, IsLoaded, IsLoadStop}
-use Rattle.tm_app.specs.Stops.{PlayStops}
+use Rattle.tm_app.specs.Stops.{PlayStops, HasCostlyLine}
 
 -- a bad place is told of the script; for want of memory it is told as that
 abbrev pub IsBadPlace : (script : List ℕ) → (line : ℕ) → Status → Type 0
@@ -33,10 +34,12 @@ IsBadPlace script line TableFull = ⊥
 abbrev pub grammar_rules : List Setting → (budget : ℕ) → Rules
 grammar_rules settings budget = rules_of rules_tokenized rules_cost rules_made settings budget
 
--- from these lines all steps are done, what they print is written, and it tells of a blocked line or not
+-- from these lines all steps are done, what they print is written, and it tells of a blocked line or not: only
+-- where a line of a text that stood costs more than the budget
 abbrev pub LinesPlay : List Setting → (budget : ℕ) → List (List ℕ) → List Scripted → Option (List ℕ) → Option (List ℕ) → (seen : Bool) → Type 0
 LinesPlay settings budget lines steps taken taken_now seen =
     (bytes : List ℕ) × (last : Machine) × Plays (grammar_rules settings budget) (machine_of lines) steps bytes last × Takes taken taken_now bytes × (tells_blocked bytes ≡ seen)
+    × (seen ≡ true → HasCostlyLine (grammar_rules settings budget) (stands_of (stand_in (machine_of lines)) (machine_steps steps)))
 
 abbrev pub LinesStop : List Setting → (budget : ℕ) → List (List ℕ) → List Scripted → Option (List ℕ) → Option (List ℕ) → (faults faults_now : ℕ) → Fault → Type 0
 LinesStop settings budget lines = PlayStops (grammar_rules settings budget) (machine_of lines)

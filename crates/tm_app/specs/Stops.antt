@@ -1,5 +1,5 @@
 -- Why the steps of a script may stop, and what was written by then.
-use Rattle.std.specs.Prelude.{◌≡◌, ◌⊎◌, ℕ, ◌+◌, List, [], take, Option, Some, slice_get}
+use Rattle.std.specs.Prelude.{◌≡◌, ◌⊎◌, ℕ, ◌+◌, ◌<◌, Contains, List, [], take, Option, Some, slice_get}
 use Rattle.tm_defs.specs.declared.changes.Change.{Change}
 use Rattle.tm_defs.specs.declared.events.Step.TheVariants.{Edit}
 use Rattle.tm_forms.specs.declared.script.ScriptStep.TheVariants.{Core}
@@ -7,6 +7,7 @@ use Rattle.tm_forms.specs.declared.script.Scripted.{Scripted}
 use Rattle.tm_machine.specs.Machine.{Rules, Machine}
 use Rattle.tm_machine.specs.Places.{IsIn}
 use Rattle.tm_machine.specs.Reach.{Stand, stand_in, stands_of, ReachesMoreThan}
+use Rattle.tm_machine.specs.Scratch.{state_from_scratch}
 use Rattle.tm_outside.specs.Causes.{Takes, TakesFront, Rose}
 use Rattle.tm_app.specs.declared.play.Fault.{Fault}
 use Rattle.tm_app.specs.declared.play.Fault.TheVariants.{SinkFault, OutOfMemory, TableFull, BadPlace}
@@ -15,6 +16,12 @@ use Rattle.tm_app.specs.Play.{Prints, Plays, machine_steps}
 -- a run needs a table of states to hold more than this many entries of one kind before it may answer that a table is full
 abbrev pub large_reach : ℕ
 large_reach = 8388608
+
+-- a line of a text that stood takes more steps of plain search than the budget, from its state from scratch
+abbrev pub HasCostlyLine : Rules → List Stand → Type 0
+HasCostlyLine r stands =
+    (s : Stand) × (i : ℕ) × (line : List ℕ) × Contains stands s × (slice_get s.lines i ≡ Some line)
+    × (r.budget < (r.setting s.epoch).plain_cost (state_from_scratch (r.setting s.epoch) s.lines i) line)
 
 -- why a text was not written whole
 abbrev pub IsWriteStop : Type 0 → (before now : ℕ) → Fault → Type 0

@@ -58,15 +58,18 @@ module _ (k : Tokenizing) (budget : ℕ) where
       (omega (arith, within.first, within.last, within.lines_in_order)) h
 
 module _ (r : Rules) where
-  abbrev Right : Machine → Type 0
+  abbrev pub Right : Machine → Type 0
   Right m = AreRight (r.setting m.fore.epoch) r.budget opening m.fore.text.lines m.fore.entries
 
-  right-step : (m : Machine) (s : Step) (a : Answer) (n : Machine) → Right m → Steps r m s a n → Right n
+  pub right-step : (m : Machine) (s : Step) (a : Answer) (n : Machine) → Right m → Steps r m s a n → Right n
   right-step m (step.Edit c) (Edited version) n h d = subst Right (sym d.2) (AreRight-replaced (r.setting m.fore.epoch) r.budget m.fore.text.lines m.fore.entries c d.0 h)
   right-step m step.Line (Lined turn) n h d = subst Right (sym d.2) (AreRight-turn (r.setting m.fore.epoch) r.budget m.fore.text.lines m.fore.entries turn d.0 h d.1)
   right-step m step.Settle (Forced done blocked) n h d =
       subst Right (sym d.2) (AreRight-forces (r.setting m.fore.epoch) r.budget m.fore.text.lines (length m.fore.text.lines - 1) m.fore.entries done blocked d.0 h d.1)
   right-step m _ _ n h d = absurd d
+
+  pub right-new : (lines : List (List ℕ)) → Right (machine_of lines)
+  right-new lines = AreRight-blank (r.setting 0) r.budget opening lines
 
   right-run : (m : Machine) (xs : List (Step × Answer)) (n : Machine) → Right m → Runs r m xs n → Right n
   right-run m [] n h d = subst Right (sym d) h
@@ -74,4 +77,4 @@ module _ (r : Rules) where
 
   pub accurate-run : (lines : List (List ℕ)) (xs : List (Step × Answer)) (m : Machine) → Runs r (machine_of lines) xs m → IsAccurate r m
   accurate-run lines xs m d =
-      AreAccurate-right (r.setting m.fore.epoch) r.budget m.fore.text.lines m.fore.entries (right-run (machine_of lines) xs m (AreRight-blank (r.setting 0) r.budget opening lines) d)
+      AreAccurate-right (r.setting m.fore.epoch) r.budget m.fore.text.lines m.fore.entries (right-run (machine_of lines) xs m (right-new lines) d)

@@ -1,0 +1,95 @@
+-- What tells of a blocked line has its cause: a line that costs more than the budget.
+use Rattle.std.proofs.Common.{◌≡◌, ℕ, ◌<◌, ◌-◌, Bool, true, false, List, [], ◌∷◌, ◌++◌, length, Option, Some, None, refl, ap, sym, ◌∙◌, subst, inl, inr}
+use Rattle.std.specs.Prelude.{Contains, ◌||◌, is_some, slice_get}
+use Rattle.tm_defs.specs.declared.events.Step.{Step}
+use Rattle.tm_defs.specs.declared.events.Step.TheVariants as step
+use Rattle.tm_defs.specs.declared.events.Turn.{Turn}
+use Rattle.tm_defs.specs.declared.events.Turn.TheVariants.{Done, Idle, Blocked}
+use Rattle.tm_defs.specs.declared.frames.FrameData.{FrameData}
+use Rattle.tm_forms.specs.declared.script.ScriptStep.{ScriptStep}
+use Rattle.tm_forms.specs.declared.script.ScriptStep.TheVariants.{Core, SettleQuietly, Show}
+use Rattle.tm_forms.specs.declared.script.Scripted.{Scripted}
+use Rattle.tm_machine.specs.declared.entries.Entry.{Entry}
+use Rattle.tm_machine.specs.Machine.{Rules, Machine, Answer, Edited, Lined, Forced, Steps, Turns, Forces, machine_of}
+use Rattle.tm_machine.specs.Reach.{Stand, stand_in, stands_of}
+use Rattle.tm_machine.specs.Scratch.{state_from_scratch}
+use Rattle.tm_machine.proofs.BlockedFronts.{front-costs, forces-blocked}
+use Rattle.tm_machine.proofs.ReachedTables.{front-start, stands-first}
+use Rattle.tm_machine.proofs.RightRuns.{Right, right-step, right-new}
+use Rattle.tm_app.specs.Play.{Prints, Plays, machine_steps}
+use Rattle.tm_app.specs.Printed.{tells_from, tells_blocked, answer_text, quiet_text, turn_text, work_text, blocked_text}
+use Rattle.tm_app.specs.Stands.{Tells}
+use Rattle.tm_app.specs.Stops.{HasCostlyLine}
+use Rattle.tm_app.proofs.PlayRuns.{step-first}
+use Rattle.tm_app.proofs.Tells.{nothing-tells, both-tell, turn-tells, work-tells, blocked-tells, shown-tells, tells-as}
+
+module _ (r : Rules) where
+  -- line i of the machine's text costs more than the budget
+  abbrev Costs : Machine → ℕ → Type 0
+  Costs m i =
+      let k = r.setting m.fore.epoch in
+      (line : List ℕ) × (slice_get m.fore.text.lines i ≡ Some line) × (r.budget < k.plain_cost (state_from_scratch k m.fore.text.lines i) line)
+
+  -- these bytes tell of a blocked line only where one costs more
+  abbrev Told : Machine → List ℕ → Type 0
+  Told m bytes = (seen : Bool) × Tells bytes seen × (seen ≡ true → (i : ℕ) × Costs m i)
+
+  told-as : (m : Machine) (a b : List ℕ) → b ≡ a → Told m a → Told m b
+  told-as m a b is told = let P : List ℕ → Type 0 = λ l. Told m l in subst P (sym is) told
+
+  blocked-costs : (m : Machine) (i : ℕ) (after : List (Entry (List FrameData))) → Right r m → Turns (r.setting m.fore.epoch) r.budget m.fore.text.lines m.fore.entries (Blocked i) after → Costs m i
+  blocked-costs m i after h (inl b) = (front-costs (r.setting m.fore.epoch) r.budget m.fore.text.lines m.fore.entries i h b.0 b.1).costs
+  blocked-costs m i after h (inr b) =
+      let k = r.setting m.fore.epoch in
+      let scratch : Some b.0 ≡ Some (state_from_scratch k m.fore.text.lines i) = sym b.2.begins ∙ front-start k r.budget m.fore.text.lines m.fore.entries i h b.2.at_front in
+      let same : b.0 ≡ state_from_scratch k m.fore.text.lines i = cc in
+      let P : List FrameData → Type 0 = λ z. r.budget < k.plain_cost z b.1 in
+      (b.1, b.2.holds, subst P same b.3)
+
+  turn-told : (m : Machine) (turn : Turn) (after : List (Entry (List FrameData))) → Right r m → Turns (r.setting m.fore.epoch) r.budget m.fore.text.lines m.fore.entries turn after → Told m (turn_text turn)
+  turn-told m (Done i) after h t = (false, turn-tells (Done i), λ e. absurd cc)
+  turn-told m Idle after h t = (false, turn-tells Idle, λ e. absurd cc)
+  turn-told m (Blocked i) after h t = (true, turn-tells (Blocked i), λ e. (i, blocked-costs m i after h t))
+
+  forced-costs : (m : Machine) (count : ℕ) (blocked : Option ℕ) (after : List (Entry (List FrameData))) → Right r m →
+      Forces (r.setting m.fore.epoch) r.budget m.fore.text.lines (length m.fore.text.lines - 1) m.fore.entries count blocked after → is_some blocked ≡ true → (i : ℕ) × Costs m i
+  forced-costs m count None after h f e = absurd cc
+  forced-costs m count (Some i) after h f e = (i, (forces-blocked (r.setting m.fore.epoch) r.budget m.fore.text.lines (length m.fore.text.lines - 1) m.fore.entries count i after h f).costs)
+
+  answer-told : (m n : Machine) (s : Step) (a : Answer) → Right r m → Steps r m s a n → Told m (answer_text a)
+  answer-told m n (step.Edit c) (Edited version) h d = (false, nothing-tells, λ e. absurd cc)
+  answer-told m n step.Line (Lined turn) h d = turn-told m turn d.0 h d.1
+  answer-told m n step.Settle (Forced done blocked) h d =
+      (is_some blocked, both-tell (work_text done) (blocked_text blocked) false (is_some blocked) (work-tells done) (blocked-tells blocked), forced-costs m done blocked d.0 h d.1)
+  answer-told m n _ _ h d = absurd d
+
+  quiet-told : (m n : Machine) (a : Answer) → Right r m → Steps r m step.Settle a n → Told m (quiet_text a)
+  quiet-told m n (Forced done blocked) h d = (is_some blocked, blocked-tells blocked, forced-costs m done blocked d.0 h d.1)
+  quiet-told m n _ h d = absurd d
+
+  prints-told : (m n : Machine) (s : ScriptStep) (bytes : List ℕ) → Right r m → Prints r m s bytes n → Told m bytes
+  prints-told m n (Core s) bytes h p = told-as m (answer_text p.0) bytes p.2 (answer-told m n s p.0 h p.1)
+  prints-told m n SettleQuietly bytes h p = told-as m (quiet_text p.0) bytes p.2 (quiet-told m n p.0 h p.1)
+  prints-told m n Show bytes h p = told-as m _ bytes p.1 (false, shown-tells m.fore.entries, λ e. absurd cc)
+
+  prints-right : (m n : Machine) (s : ScriptStep) (bytes : List ℕ) → Right r m → Prints r m s bytes n → Right r n
+  prints-right m n (Core s) bytes h p = right-step r m s p.0 n h p.1
+  prints-right m n SettleQuietly bytes h p = right-step r m step.Settle p.0 n h p.1
+  prints-right m n Show bytes h p = let P : Machine → Type 0 = λ z. Right r z in subst P (sym p.0) h
+
+  -- what steps print tells of a blocked line only where a line of a text that stood costs more
+  costly : (m n : Machine) (xs : List Scripted) (bytes : List ℕ) → Right r m → Plays r m xs bytes n → tells_blocked bytes ≡ true → HasCostlyLine r (stands_of (stand_in m) (machine_steps xs))
+  unfolding tells_from
+  costly m n [] bytes h p e = let none : false ≡ true = ap tells_blocked (sym p.0) ∙ e in absurd cc
+  costly m n (x ∷ xs) bytes h p e =
+      let told = prints-told m p.0 x.step p.1 h p.4 in
+      let whole : (told.0 || tells_blocked p.2) ≡ true = sym (told.1 p.2) ∙ ap tells_blocked (sym p.3) ∙ e in
+      go told.0 told.2 whole (costly p.0 n xs p.2 (prints-right m p.0 x.step p.1 h p.4) p.5)
+    where
+      go : (seen : Bool) → (seen ≡ true → (i : ℕ) × Costs m i) → (seen || tells_blocked p.2) ≡ true → (tells_blocked p.2 ≡ true → HasCostlyLine r (stands_of (stand_in p.0) (machine_steps xs))) → HasCostlyLine r (stands_of (stand_in m) (machine_steps (x ∷ xs)))
+      go true costs is later = let c = costs refl in (stand_in m, c.0, c.1.0, stands-first (stand_in m) (machine_steps (x ∷ xs)), c.1.1, c.1.2)
+      go false costs is later = let c = later is in (c.0, c.1, c.2, step-first r m p.0 c.0 x.step xs p.1 p.4 c.3, c.4, c.5)
+
+  -- from the opening text on
+  pub costly-lines : (lines : List (List ℕ)) (n : Machine) (xs : List Scripted) (bytes : List ℕ) → Plays r (machine_of lines) xs bytes n → tells_blocked bytes ≡ true → HasCostlyLine r (stands_of (stand_in (machine_of lines)) (machine_steps xs))
+  costly-lines lines n xs bytes p e = costly (machine_of lines) n xs bytes (right-new r lines) p e
