@@ -9,7 +9,7 @@ use Rattle.tm_defs.specs.declared.events.Turn.TheVariants.{Done}
 use Rattle.tm_defs.specs.declared.frames.FrameData.{FrameData}
 use Rattle.tm_defs.specs.declared.tokens.Token.{Token}
 use Rattle.tm_machine.specs.declared.entries.Entry.{Entry}
-use Rattle.tm_machine.specs.Entries.{blank, front, put, end_at, start_at, is_accurate, is_end}
+use Rattle.tm_machine.specs.Entries.{blank, front, put, stored, end_at, start_at, is_accurate, is_end}
 use Rattle.tm_machine.specs.Machine.{Turns, DoesLines, opening}
 use Rattle.tm_machine.specs.Scratch.{Tokenizing}
 use Rattle.tm_machine.proofs.Fronts.{are_good, good-each, bad-at, front-facts, accurate-front}
@@ -141,6 +141,29 @@ module _ (k : Tokenizing) (budget : ℕ) (lines : List (List ℕ)) (last : ℕ) 
   does-within es (i ∷ done) after h (suc j) d lt =
       let rest = does-within h.1.0 done after h.1.2 j d (omega arith) in
       (omega (arith, rest.0, length-done es i h.1.0 h.1.1), rest.1)
+
+  -- a turn that does a line has one outcome
+  done-one : (es : List (Entry (List FrameData))) (i j : ℕ) (a b : List (Entry (List FrameData))) → Turns k budget lines es (Done i) a → Turns k budget lines es (Done j) b → (i ≡ j) × (a ≡ b)
+  done-one es i j a b t u =
+      let same : i ≡ j = cc (t.2.at_front, u.2.at_front) in
+      let start : Some t.0 ≡ Some u.0 = sym t.2.begins ∙ ap (start_at opening es) same ∙ u.2.begins in
+      let line : Some t.1 ≡ Some u.1 = sym t.2.holds ∙ ap (slice_get lines) same ∙ u.2.holds in
+      let at_start : t.0 ≡ u.0 = cc in
+      let at_line : t.1 ≡ u.1 = cc in (
+        same,
+        t.3 ∙ ap (λ n. stored es n (k.tokenized t.0 t.1)) same ∙ ap (λ z. stored es j (k.tokenized z t.1)) at_start ∙ ap (λ z. stored es j (k.tokenized u.0 z)) at_line ∙ sym u.3,
+      )
+
+  -- and so has a run of so many lines
+  pub does-one : (es : List (Entry (List FrameData))) (done more : List ℕ) (a b : List (Entry (List FrameData))) → DoesLines k budget lines last es done a → DoesLines k budget lines last es more b → length done ≡ length more → (done ≡ more) × (a ≡ b)
+  does-one es [] [] a b d e same = (refl, d ∙ sym e)
+  does-one es [] (j ∷ more) a b d e same = absurd (omega arith)
+  does-one es (i ∷ done) [] a b d e same = absurd (omega arith)
+  does-one es (i ∷ done) (j ∷ more) a b d e same =
+      let one = done-one es i j d.1.0 e.1.0 d.1.1 e.1.1 in
+      let P : List (Entry (List FrameData)) → Type 0 = λ xs. DoesLines k budget lines last xs done a in
+      let rest = does-one e.1.0 done more a b (subst P one.1 d.1.2) e.1.2 (omega arith) in
+      (ap (λ n. n ∷ done) one.0 ∙ ap (λ xs. j ∷ xs) rest.0, rest.1)
 
   -- one more line
   pub does-next : (es mid after : List (Entry (List FrameData))) (done : List ℕ) (i : ℕ) → DoesLines k budget lines last es done mid → is_accurate mid last ≡ false → Turns k budget lines mid (Done i) after → DoesLines k budget lines last es (done ++ i ∷ []) after

@@ -59,12 +59,14 @@ pub fn accurate_lines_stand_before_the_front()
 {}
 
 /// Lines that are done one after another rise, so none is done twice, and none is behind the last
-/// line or the text. A good line whose start is the same behind them is not among them.
+/// line or the text. A good line whose start is the same behind them is not among them. How many were
+/// done says which.
 pub fn lines_are_done_once()
     ensures rising { (k : Tokenizing) (budget : ℕ) (lines : List (List ℕ)) (last : ℕ) (es : List (Entry (List FrameData))) (done : List ℕ) (after : List (Entry (List FrameData))) → DoesLines k budget lines last es done after → IsStrictlyIncreasing done }
     ensures within { (k : Tokenizing) (budget : ℕ) (lines : List (List ℕ)) (last : ℕ) (es : List (Entry (List FrameData))) (done : List ℕ) (after : List (Entry (List FrameData))) → DoesLines k budget lines last es done after → All (λ i. (i < length es) × (i ≤ last)) done }
     ensures few { (k : Tokenizing) (budget : ℕ) (lines : List (List ℕ)) (last : ℕ) (es : List (Entry (List FrameData))) (done : List ℕ) (after : List (Entry (List FrameData))) → DoesLines k budget lines last es done after → length done ≤ length es }
     ensures kept { (k : Tokenizing) (budget : ℕ) (lines : List (List ℕ)) (last : ℕ) (es : List (Entry (List FrameData))) (done : List ℕ) (after : List (Entry (List FrameData))) (i : ℕ) (e : Entry (List FrameData)) → DoesLines k budget lines last es done after → slice_get es i ≡ Some e → e.good ≡ true → start_at opening es i ≡ start_at opening after i → ¬ Contains done i }
+    ensures one { (k : Tokenizing) (budget : ℕ) (lines : List (List ℕ)) (last : ℕ) (es : List (Entry (List FrameData))) (done more : List ℕ) (a b : List (Entry (List FrameData))) → DoesLines k budget lines last es done a → DoesLines k budget lines last es more b → length done ≡ length more → (done ≡ more) × (a ≡ b) }
 {}
 
 /// A front that is blocked costs more than the budget from its state from scratch, so what ends a

@@ -115,7 +115,8 @@ impl<'a, T: LineTok> Model<'a, T> {
         self.epoch
     }
 
-    /// The first line that is not good.
+    /// The first line that is not good. A line is accurate exactly where it stands before it, so a
+    /// caller that asks of all lines asks here once, and not `accurate` of each.
     pub fn front(&self) -> Option<u32>
         ensures { result ≡ front self.now.entries }
     {
