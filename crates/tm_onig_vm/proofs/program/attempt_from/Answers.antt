@@ -1,6 +1,7 @@
-use Rattle.std.proofs.Common.{ℕ, ◌+◌, replicate, None, ap, ◌∙◌}
+use Rattle.std.proofs.Common.{◌≡◌, ◌∙◌}
 use Rattle.tm_onig_class.specs.Tree.{tree_of}
-use Rattle.tm_onig_search.specs.Find.{at_start}
+use Rattle.tm_onig_search.specs.Find.{at_start, blank}
+use Rattle.tm_onig_search.specs.Outcomes.{Caps}
 use Rattle.tm_onig_vm.specs.Anchors.{subject_of}
 use Rattle.tm_onig_vm.specs.Machine.{AllMean}
 use Rattle.tm_onig_vm.specs.Threads.{plains}
@@ -9,12 +10,12 @@ use Rattle.tm_onig_vm.proofs.program.attempt_from.Goals as goal
 use Rattle.tm_onig_vm.proofs.program.attempt_from.Goals.{In_ok-begin}
 
 module _ (c : In_ok-begin) where
-  means : AllMean (subject_of c.args.line.now c.args.anchors) c.prog.inside.code.items (plains c.begin.new.threads.items)
+  means : AllMean (subject_of c.args.line.now c.args.anchors) c.prog.inside.code.items (plains c.begin.new.trail c.begin.new.caps)
       (at_start (subject_of c.args.line.now c.args.anchors) (tree_of c.prog.inside.pattern) c.args.start)
   means =
-      let e = c.in_ok-blank.ensures ∙ ap (λ (n : ℕ). replicate (n + 1) None) c.prog.invariant.groups_is in
-      rw e at (program_means (subject_of c.args.line.now c.args.anchors) c.prog.inside.code.items c.prog.inside.first (tree_of c.prog.inside.pattern) c.args.start c.in_ok-blank.blank.items
-      (plains c.begin.new.threads.items) c.prog.invariant.code_is c.requires.within c.in_ok-begin.ensures)
+      let e : c.begin.new.caps ≡ blank (tree_of c.prog.inside.pattern) = c.in_ok-begin.ensures.groups ∙ (rw (← c.prog.view_is) at c.requires.blank) in
+      program_means (subject_of c.args.line.now c.args.anchors) c.prog.inside.code.items c.prog.inside.first (tree_of c.prog.inside.pattern) c.args.start c.begin.new.caps
+      (plains c.begin.new.trail c.begin.new.caps) c.prog.invariant.code_is c.requires.within e c.in_ok-begin.ensures.ways
 
 pub run-requires-clause-stands : goal.run-requires-clause-stands
 run-requires-clause-stands c =
