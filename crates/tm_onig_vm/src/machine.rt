@@ -7,7 +7,6 @@ ghost use Rattle.std.specs.Option.{option_copied};
 ghost use Rattle.tm_onig_search.specs.Places.{Subject, passes, matches, in_set, is_any, holds};
 ghost use Rattle.tm_onig_search.specs.Search.{is_at, last_set, width_or};
 ghost use Rattle.tm_onig_vm.specs.Anchors.{subject_of};
-ghost use Rattle.tm_onig_vm.specs.declared.trail.Trail as trails;
 ghost use Rattle.tm_onig_vm.specs.Machine.{at_pc, turn_of, behind_of, goes_if, read_of};
 ghost use Rattle.tm_onig_vm.specs.Threads.{plain, plains, numbers_of, groups_under, Does, Acts};
 
@@ -15,7 +14,8 @@ use crate::code::Instr;
 use crate::goals::last_set;
 use crate::places::{Anchors, has_any, has_char, has_member, is_at_place, stands_at, text_of};
 use crate::trail::{
-    Trail, Way, ahead_trail, behind_trail, close_group, go, go_to_each, put_number, take_number, turn,
+    Trail, Way, ahead_trail, behind_trail, close_group, go, go_to_each, put_number, take_number,
+    turn,
 };
 use std::alloc::Global;
 use tm_defs::memory::OutOfMemory;
@@ -142,48 +142,6 @@ fn arrive_act(next: u32, pos: usize, trail: &mut Trail) -> Result<Acted, OutOfMe
     Ok(Acted::Costs(1))
 }
 
-#[tactic(auto, unfolding(crate::specs::Machine::exec))]
-fn ahead_act(
-    alloc: Global,
-    body: u32,
-    negative: bool,
-    stays: bool,
-    next: u32,
-    pos: usize,
-) -> Result<Acted, OutOfMemory>
-    ensures { (s : Subject) (trail : trails.Trail) (caps : List (Option (ℕ × ℕ))) → IfOk result (λ acted. Acts s (Instr.Ahead body negative stays next) pos trail caps trail caps acted) }
-{
-    let inner = ahead_trail(alloc, body, pos)?;
-    Ok(Acted::Waits(Waiting {
-        inner,
-        negative,
-        stays,
-        rest: Way { pc: next, pos },
-    }))
-}
-
-#[tactic(auto, unfolding(crate::specs::Machine::exec))]
-fn behind_act(
-    alloc: Global,
-    body: u32,
-    negative: bool,
-    least: u64,
-    greatest: Option<u64>,
-    next: u32,
-    pos: usize,
-) -> Result<Acted, OutOfMemory>
-    requires small { pos < 2 ^ 31 }
-    ensures { (s : Subject) (trail : trails.Trail) (caps : List (Option (ℕ × ℕ))) → IfOk result (λ acted. Acts s (Instr.Behind body negative least greatest next) pos trail caps trail caps acted) }
-{
-    let inner = behind_trail(alloc, body, least, greatest, pos)?;
-    Ok(Acted::Waits(Waiting {
-        inner,
-        negative,
-        stays: true,
-        rest: Way { pc: next, pos },
-    }))
-}
-
 /// Carries out the instruction at the position.
 #[tactic(auto, unfolding(crate::specs::Machine::exec))]
 pub(crate) fn act(
@@ -259,14 +217,30 @@ pub(crate) fn act(
             negative,
             stays,
             next,
-        } => ahead_act(alloc, *body, *negative, *stays, *next, pos),
+        } => {
+            let inner = ahead_trail(alloc, *body, pos)?;
+            Ok(Acted::Waits(Waiting {
+                inner,
+                negative: *negative,
+                stays: *stays,
+                rest: Way { pc: *next, pos },
+            }))
+        }
         Instr::Behind {
             body,
             negative,
             least,
             greatest,
             next,
-        } => behind_act(alloc, *body, *negative, *least, *greatest, *next, pos),
+        } => {
+            let inner = behind_trail(alloc, *body, *least, *greatest, pos)?;
+            Ok(Acted::Waits(Waiting {
+                inner,
+                negative: *negative,
+                stays: true,
+                rest: Way { pc: *next, pos },
+            }))
+        }
         Instr::Arrive { next } => arrive_act(*next, pos, trail),
     }
 }

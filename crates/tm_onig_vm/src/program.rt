@@ -15,7 +15,7 @@ use crate::goals::Found;
 use crate::places::Anchors;
 use crate::plain::{blank_caps, with_whole};
 use crate::running::run;
-use crate::trail::{Trail, begin, blank_trail};
+use crate::trail::{Trail, blank_trail, go, undo_all};
 use crate::widths::last_group;
 use std::alloc::Global;
 use std::marker::Model;
@@ -85,7 +85,8 @@ fn attempt_from(
     ensures falls { (budget.new ≤ budget.old) × (budget.old ≤ budget.new + (at_start (subject_of line.now anchors) (tree_of prog.now) start).cost) }
     ensures kept { OnOk result (groups_under trail.new caps.new ≡ blank (tree_of prog.now)) }
 {
-    begin(trail, caps, prog.first, start)?;
+    undo_all(trail, caps);
+    go(trail, prog.first, start)?;
     run(alloc, line, anchors, &prog.code, trail, caps, budget)
 }
 
@@ -120,7 +121,16 @@ pub fn find(
     let mut trail = blank_trail(alloc);
     let mut caps = blank_caps(alloc, prog.groups as usize + 1)?;
     'starts: for start in from..chars.len() + 1 {
-        match attempt_from(alloc, chars, anchors, prog, start, &mut trail, caps.as_mut_slice(), budget) {
+        match attempt_from(
+            alloc,
+            chars,
+            anchors,
+            prog,
+            start,
+            &mut trail,
+            caps.as_mut_slice(),
+            budget,
+        ) {
             Ok(None) => {}
             Ok(Some(end)) => return Ok(Some(with_whole(Found { end, caps }, start))),
             Err(fault) => return Err(fault),

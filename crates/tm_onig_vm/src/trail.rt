@@ -33,7 +33,9 @@ pub enum Mark {
     /// A number was put on the stack.
     Put,
     /// This number was taken from the stack.
-    Taken { number: u32 },
+    Taken {
+        number: u32,
+    },
 }
 
 /// The marks and the numbers, of each the top one last. The numbers are starts of groups and rounds,
@@ -137,7 +139,10 @@ pub(crate) fn undo_all(trail: &mut Trail, caps: &mut [Option<(u32, u32)>])
     trail.numbers.clear();
     'marks: while let Some(mark) = trail.marks.pop() {
         match mark {
-            Mark::Group { number, was } => set_group(caps, number, was),
+            Mark::Group {
+                number,
+                was: before,
+            } => set_group(caps, number, before),
             Mark::Way(_) => {}
             Mark::Put => {}
             Mark::Taken { .. } => {}
@@ -219,16 +224,6 @@ pub(crate) fn turn(
         let _count = take_number(trail)?;
         go(trail, next, pos)
     }
-}
-
-/// Leaves the one way with which a search begins, in the room that is there.
-pub(crate) fn begin(trail: &mut Trail, caps: &mut [Option<(u32, u32)>], body: u32, pos: usize) -> Result<(), OutOfMemory>
-    ensures groups { OnOk result (caps.new ≡ groups_under trail.old caps.old) }
-    ensures ways { OnOk result (plains trail.new caps.new ≡ at_pc body [] pos caps.new ∷ []) }
-    ensures kept { OnOk result (groups_under trail.new caps.new ≡ caps.new) }
-{
-    undo_all(trail, caps);
-    go(trail, body, pos)
 }
 
 /// A trail with no way.

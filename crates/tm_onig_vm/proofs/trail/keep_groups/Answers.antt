@@ -19,9 +19,9 @@ loop-i-preserved c =
     let low : c.loop-i.i < length marks = omega arith in
     let over = keeps_over c.args.trail.now c.loop-i.trail marks c.loop-i.i mark low c.index-mark.ensures c.loop-i.invariant in
     elim c.match-mark.branch [
-      in-Group+in_ok-push-in-Group w ↦
-        subst (λ (t : Trail). Keeps c.args.trail.now t (take (c.loop-i.i + 1) marks)) (sym w.trail-is)
-        (keeps_group c.args.trail.now c.loop-i.trail marks c.loop-i.i mark low c.index-mark.ensures c.loop-i.invariant _ _ _ w.in-Group.is w.in_ok-push-in-Group.ensures.items refl)
+      | in-Group+in_ok-push-in-Group w ↦
+          subst (λ (t : Trail). Keeps c.args.trail.now t (take (c.loop-i.i + 1) marks)) (sym w.trail-is)
+          (keeps_group c.args.trail.now c.loop-i.trail marks c.loop-i.i mark low c.index-mark.ensures c.loop-i.invariant _ _ _ w.in-Group.is w.in_ok-push-in-Group.ensures.items refl)
       | in-Way w ↦ subst (λ (t : Trail). Keeps c.args.trail.now t (take (c.loop-i.i + 1) marks)) (sym w.trail-is) (over (rw w.in-Way.is (way_says _)))
       | in-Put w ↦ subst (λ (t : Trail). Keeps c.args.trail.now t (take (c.loop-i.i + 1) marks)) (sym w.trail-is) (over (rw w.in-Put.is put_says))
       | in-Taken w ↦ subst (λ (t : Trail). Keeps c.args.trail.now t (take (c.loop-i.i + 1) marks)) (sym w.trail-is) (over (rw w.in-Taken.is (taken_says _)))

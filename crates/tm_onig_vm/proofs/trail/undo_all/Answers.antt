@@ -10,7 +10,7 @@ pub marks-preserved-in-Group : goal.marks-preserved-in-Group
 marks-preserved-in-Group c =
     let top = rw c.in-Group.is at c.in-Some.ensures.items in
     record {
-      groups = rw c.set_group.ensures (sym (group_kept _ c.marks.trail c.in-Group.number c.in-Group.was top c.marks.caps) ∙ c.marks.invariant.groups);
+      groups = rw c.set_group.ensures (sym (group_kept _ c.marks.trail c.in-Group.number c.in-Group.before top c.marks.caps) ∙ c.marks.invariant.groups);
       numbers = c.marks.invariant.numbers;
     }
 
