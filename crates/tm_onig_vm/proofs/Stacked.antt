@@ -19,11 +19,14 @@ reverse_push xs x = reverse-append xs (x ∷ [])
 pub refill_same : {A : Type 0} (n : ℕ) (xs ws : List A) → n ≡ length xs → length ws ≡ length xs → refill n xs ws ≡ ws
 refill_same n xs ws is long = take_at ws (drop (length ws) xs) n (long ∙ sym is)
 
+set-at : (caps : Caps) (number : ℕ) (group : Option (ℕ × ℕ)) → slice_set (slice_set caps number group) number (option_and_then (λ c. c) (slice_get caps number)) ≡ caps
+set-at [] number group = refl
+set-at (c ∷ caps) zero group = refl
+set-at (c ∷ caps) (suc number) group = ap (λ (cs : Caps). c ∷ cs) (set-at caps number group)
+
 -- a group that is set and then is what it was before
-pub set_back : (caps : Caps) (number : ℕ) (group : Option (ℕ × ℕ)) → slice_set (slice_set caps number group) number (option_and_then (λ c. c) (slice_get caps number)) ≡ caps
-set_back [] number group = refl
-set_back (c ∷ caps) zero group = refl
-set_back (c ∷ caps) (suc number) group = ap (λ (cs : Caps). c ∷ cs) (set_back caps number group)
+pub set_back : (caps after : Caps) (number : ℕ) (group was : Option (ℕ × ℕ)) → after ≡ slice_set caps number group → was ≡ option_and_then (λ c. c) (slice_get caps number) → slice_set after number was ≡ caps
+set_back caps after number group was set same = rw (set, same) (set-at caps number group)
 
 module _ (old new : Trail) where
   -- one mark more, and the same numbers

@@ -11,11 +11,10 @@ ghost use Rattle.tm_onig_vm.specs.Machine.{at_pc, turn_of, behind_of, goes_if, r
 ghost use Rattle.tm_onig_vm.specs.Threads.{plain, plains, numbers_of, groups_under, Does, Acts};
 
 use crate::code::Instr;
-use crate::goals::last_set;
+use crate::goals::{group_at, last_set, set_group};
 use crate::places::{Anchors, has_any, has_char, has_member, is_at_place, stands_at, text_of};
 use crate::trail::{
-    Trail, Way, ahead_trail, behind_trail, close_group, go, go_to_each, put_number, take_number,
-    turn,
+    Mark, Trail, Way, behind_trail, blank_trail, go, go_to_each, put_number, take_number, turn,
 };
 use std::alloc::Global;
 use tm_defs::memory::OutOfMemory;
@@ -77,6 +76,7 @@ fn read_act(
     }
 }
 
+/// Sets a group, if there is one of this number.
 #[tactic(auto, unfolding(crate::specs::Machine::exec))]
 fn close_act(
     number: u32,
@@ -92,7 +92,9 @@ fn close_act(
     match take_number(trail)? {
         None => Ok(Acted::Costs(1)),
         Some(start) => {
-            close_group(trail, caps, number, start, pos as u32)?;
+            let was = group_at(caps, number);
+            trail.marks.push(Mark::Group { number, was })?;
+            set_group(caps, number, Some((start, pos as u32)));
             go(trail, next, pos)?;
             Ok(Acted::Costs(1))
         }
@@ -218,7 +220,8 @@ pub(crate) fn act(
             stays,
             next,
         } => {
-            let inner = ahead_trail(alloc, *body, pos)?;
+            let mut inner = blank_trail(alloc);
+            go(&mut inner, *body, pos)?;
             Ok(Acted::Waits(Waiting {
                 inner,
                 negative: *negative,

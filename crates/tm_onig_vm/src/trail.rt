@@ -90,25 +90,6 @@ pub(crate) fn take_number(trail: &mut Trail) -> Result<Option<u32>, OutOfMemory>
     }
 }
 
-/// Sets a group, if there is one of this number.
-pub(crate) fn close_group(
-    trail: &mut Trail,
-    caps: &mut [Option<(u32, u32)>],
-    number: u32,
-    start: u32,
-    end: u32,
-) -> Result<(), OutOfMemory>
-    ensures set { OnOk result (caps.new ≡ slice_set caps.old number (Some (start, end))) }
-    ensures ways { OnOk result (plains trail.new caps.new ≡ plains trail.old caps.old) }
-    ensures kept { OnOk result (groups_under trail.new caps.new ≡ groups_under trail.old caps.old) }
-    ensures numbers { OnOk result (trail.new.numbers.items ≡ trail.old.numbers.items) }
-{
-    let was = group_at(caps, number);
-    trail.marks.push(Mark::Group { number, was })?;
-    set_group(caps, number, Some((start, end)));
-    Ok(())
-}
-
 /// Takes the next way, before which what lies above it is undone.
 pub(crate) fn next_way(
     trail: &mut Trail,
@@ -235,16 +216,6 @@ pub(crate) fn blank_trail(alloc: Global) -> Trail
         marks: Vec::new(alloc),
         numbers: Vec::new(alloc),
     }
-}
-
-/// The way that a search of a body alone begins with.
-pub(crate) fn ahead_trail(alloc: Global, body: u32, pos: usize) -> Result<Trail, OutOfMemory>
-    ensures ways { IfOk result (λ trail. (caps : List (Option (ℕ × ℕ))) → plains trail caps ≡ at_pc body [] pos caps ∷ []) }
-    ensures kept { IfOk result (λ trail. (caps : List (Option (ℕ × ℕ))) → groups_under trail caps ≡ caps) }
-{
-    let mut trail = blank_trail(alloc);
-    go(&mut trail, body, pos)?;
-    Ok(trail)
 }
 
 /// The ways of a look-behind, the nearest start on top.
