@@ -1,5 +1,5 @@
 -- The run so far, over the machine's trail.
-use Rattle.std.proofs.Common.{◌≡◌, ℕ, ◌+◌, ◌<◌, ◌≤◌, List, [], ◌∷◌, ◌++◌, length, reverse, Some, None, slice_get, refl, sym, ap, ap₂, ◌∙◌, arith}
+use Rattle.std.proofs.Common.{◌≡◌, ℕ, ◌+◌, ◌<◌, ◌≤◌, List, [], ◌∷◌, ◌++◌, length, Some, None, slice_get, refl, sym, ap, ap₂, ◌∙◌, arith}
 use Rattle.tm_onig_search.specs.Outcomes.{Caps, Outcome, fail, accept}
 use Rattle.tm_onig_search.specs.Places.{Subject}
 use Rattle.tm_onig_vm.specs.declared.code.Instr.{Instr}
@@ -21,9 +21,6 @@ pub run_begins : (s : Subject) (code : List Instr) (threads : List Plain) (o : O
 run_begins s code threads o n none mean =
     let e : n + o.cost ≡ o.cost = omega arith in
     record { rest = o; mean = mean; total = ap (λ (c : ℕ). let r : Outcome = record { hit = o.hit; cost = c } in r) e }
-
-pub run_stops : (s : Subject) (code : List Instr) (o : Outcome) (n : ℕ) (threads : List Plain) → Runs s code o n threads → threads ≡ [] → (o.hit ≡ None) × (o.cost ≡ n)
-run_stops s code o n threads was is = let ended : Runs s code o n [] = rw is at was in R.run_ends s code o n ended
 
 -- a body that is searched alone, and what goes on after it
 pub record Awaits (s : Subject) (code : List Instr) (o : Outcome) (n : ℕ) (w : Waiting) (numbers : List ℕ) (caps : Caps) (left : List Plain) : Type 0 where

@@ -1,5 +1,5 @@
-use Rattle.std.proofs.Common.{◌≡◌, ℕ, ◌-◌, ◌+◌, ◌<◌, ◌≤◌, ◌∷◌, ◌++◌, Some, sym, ap, ◌∙◌, subst, arith}
-use Rattle.tm_onig_search.specs.Outcomes.{Caps, Outcome}
+use Rattle.std.proofs.Common.{◌≡◌, ℕ, ◌-◌, ◌+◌, ◌<◌, ◌≤◌, ◌++◌, Some, sym, ap, ◌∙◌, subst, arith}
+use Rattle.tm_onig_search.specs.Outcomes.{Outcome}
 use Rattle.tm_onig_search.specs.Places.{Subject}
 use Rattle.tm_onig_vm.specs.Anchors.{subject_of}
 use Rattle.tm_onig_vm.specs.declared.machine.Waiting.{Waiting}
@@ -8,7 +8,7 @@ use Rattle.tm_onig_vm.specs.declared.machine.Acted.TheVariants as A
 use Rattle.tm_onig_vm.specs.Machine.{AllMean, resumed_threads}
 use Rattle.tm_onig_vm.specs.Threads.{plain, plains, numbers_of, groups_under, hit_at, Acts}
 use Rattle.tm_onig_vm.proofs.Runs.{Runs, run_costs}
-use Rattle.tm_onig_vm.proofs.Turns.{run_stops, top_within, has_code, Awaits, after_costs, after_success, after_waits}
+use Rattle.tm_onig_vm.proofs.Turns.{top_within, has_code, Awaits, after_costs, after_success, after_waits}
 use Rattle.tm_onig_vm.proofs.running.+run.Goals as goal
 use Rattle.tm_onig_vm.proofs.running.+run.Goals.{In_ok-end}
 

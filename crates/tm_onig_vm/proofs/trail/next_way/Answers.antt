@@ -1,6 +1,5 @@
 use Rattle.std.proofs.Common.{refl, sym, ◌∙◌}
 use Rattle.std.proofs.lemmas.List.{nil_from_length}
-use Rattle.tm_onig_vm.specs.Threads.{plains, groups_under}
 use Rattle.tm_onig_vm.proofs.Stacked.{way_on, way_kept, group_on, group_kept, put_back, put_kept, taken_on, taken_kept, none_on, none_kept, drop-popped}
 use Rattle.tm_onig_vm.proofs.trail.next_way.Goals as goal
 

@@ -1,4 +1,4 @@
-use Rattle.std.proofs.Common.{refl, sym, ◌∙◌}
+use Rattle.std.proofs.Common.{refl, sym}
 use Rattle.tm_onig_vm.proofs.Stacked.{same_on, same_kept, put_on, put_kept, taken_on, taken_kept, mark_more, put_again}
 use Rattle.tm_onig_vm.proofs.trail.take_number.Goals as goal
 
