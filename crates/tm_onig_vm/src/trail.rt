@@ -67,7 +67,7 @@ pub(crate) fn put_number(trail: &mut Trail, number: u32) -> Result<(), OutOfMemo
     Ok(())
 }
 
-/// Takes the top number from the stack. Where it was put there since the last way, no mark is left.
+/// Takes the top number from the stack. Where the last mark says that it was put there, that mark goes.
 pub(crate) fn take_number(trail: &mut Trail) -> Result<Option<u32>, OutOfMemory>
     ensures ways { OnOk result ((caps : List (Option (ℕ × ℕ))) → plains trail.new caps ≡ plains trail.old caps) }
     ensures kept { OnOk result ((caps : List (Option (ℕ × ℕ))) → groups_under trail.new caps ≡ groups_under trail.old caps) }
