@@ -65,13 +65,6 @@ module _ (s : Subject) (code : List Instr) where
   pub run_costs : (o : Outcome) (n : ℕ) (threads : List Thread) → Runs o n threads → n ≤ o.cost
   run_costs o n threads was = let cost : n + was.rest.cost ≡ o.cost = ap (λ (x : Outcome). x.cost) was.total in omega arith
 
-  pub run_ends : (o : Outcome) (n : ℕ) → Runs o n [] → (o.hit ≡ None) × (o.cost ≡ n)
-  run_ends o n was =
-      let none : was.rest ≡ fail = was.mean in
-      let whole : spend n fail ≡ o = ap (spend n) (sym none) ∙ was.total in
-      let cost : n + 0 ≡ o.cost = ap (λ (x : Outcome). x.cost) whole in
-      (sym (ap (λ (x : Outcome). x.hit) whole), omega arith)
-
 module _ (s : Subject) (code : List Instr) (small : length s.line < 0x80000000) where
   module _ (o : Outcome) (n : ℕ) (t : Thread) (ts : List Thread) (was : Runs s code o n (t ∷ ts)) where
     first : Outcome

@@ -1,37 +1,63 @@
--- The machine's threads as the plain ones.
-use Rattle.std.specs.Prelude.{◌≡◌, ◌<◌, List, [], ◌∷◌, ◌++◌, reverse}
-use Rattle.tm_onig_search.specs.Outcomes.{Hit}
+-- The ways on the machine's trail as the plain threads.
+use Rattle.std.specs.Prelude.{◌≡◌, ℕ, ◌<◌, List, [], ◌∷◌, ◌++◌, reverse, drop, slice_set}
+use Rattle.tm_onig_search.specs.Outcomes.{Caps, Hit}
 use Rattle.tm_onig_search.specs.Places.{Subject}
 use Rattle.tm_onig_vm.specs.declared.code.Instr.{Instr}
-use Rattle.tm_onig_vm.specs.declared.thread.Thread.{Thread}
+use Rattle.tm_onig_vm.specs.declared.trail.Way.{Way}
+use Rattle.tm_onig_vm.specs.declared.trail.Mark.{Mark}
+use Rattle.tm_onig_vm.specs.declared.trail.Mark.TheVariants as M
+use Rattle.tm_onig_vm.specs.declared.trail.Trail.{Trail}
 use Rattle.tm_onig_vm.specs.declared.machine.Acted.{Acted}
 use Rattle.tm_onig_vm.specs.declared.machine.Acted.TheVariants as A
 use Rattle.tm_onig_vm.specs.Machine.{Thread as Plain, Did, Succeeds, Goes, Waits, at_pc, exec}
-use Rattle.tm_onig_vm.specs.Steps.{hit_of}
 
-abbrev pub plain : Thread → Plain
-plain t = at_pc t.pc (reverse t.numbers.items) t.pos t.caps.items
+abbrev pub plain : Way → List ℕ → Caps → Plain
+plain way numbers caps = at_pc way.pc numbers way.pos caps
 
--- the threads, the top one first
-unfoldable pub plains : List Thread → List Plain
-plains [] = []
-plains (t ∷ ts) = plains ts ++ plain t ∷ []
+-- the ways, the top one first: what was changed above a way is undone before it
+unfoldable pub ways : List Mark → List ℕ → Caps → List Plain
+ways [] numbers caps = []
+ways (M.Way way ∷ marks) numbers caps = plain way numbers caps ∷ ways marks numbers caps
+ways (M.Group number was ∷ marks) numbers caps = ways marks numbers (slice_set caps number was)
+ways (M.Put ∷ marks) numbers caps = ways marks (drop 1 numbers) caps
+ways (M.Taken number ∷ marks) numbers caps = ways marks (number ∷ numbers) caps
 
-abbrev pub hit_at : Thread → Hit
-hit_at t = record { end = t.pos; caps = t.caps.items }
+-- the groups when all is undone
+unfoldable pub undone : List Mark → Caps → Caps
+undone [] caps = caps
+undone (M.Way way ∷ marks) caps = undone marks caps
+undone (M.Group number was ∷ marks) caps = undone marks (slice_set caps number was)
+undone (M.Put ∷ marks) caps = undone marks caps
+undone (M.Taken number ∷ marks) caps = undone marks caps
 
--- what carrying out an instruction leaves is what it does
-abbrev pub Does : Did → Acted → Thread → List Thread → List Thread → Type 0
-Does Succeeds (A.Succeeds found) t old new = hit_of found ≡ hit_at t
-Does Succeeds (A.Costs n) t old new = ⊥
-Does Succeeds (A.Waits w) t old new = ⊥
-Does (Goes cost threads) (A.Succeeds found) t old new = ⊥
-Does (Goes cost threads) (A.Costs n) t old new = (n ≡ cost) × (plains new ≡ threads ++ plains old) × (0 < n)
-Does (Goes cost threads) (A.Waits w) t old new = ⊥
-Does (Waits inner negative stays rest) (A.Succeeds found) t old new = ⊥
-Does (Waits inner negative stays rest) (A.Costs n) t old new = ⊥
-Does (Waits inner negative stays rest) (A.Waits w) t old new =
-    (plains w.inner.items ≡ inner) × (w.negative ≡ negative) × (w.stays ≡ stays) × (plain w.rest ≡ rest) × (plains new ≡ plains old)
+-- the numbers of the goals at hand, the top one first
+abbrev pub numbers_of : Trail → List ℕ
+numbers_of trail = reverse trail.numbers.items
 
-abbrev pub Acts : Subject → Instr → Thread → List Thread → List Thread → Acted → Type 0
-Acts s i t old new acted = Does (exec s i (reverse t.numbers.items) t.pos t.caps.items) acted t old new
+-- the threads that the trail holds, where these are the groups now
+unfoldable pub plains : Trail → Caps → List Plain
+plains trail caps = ways (reverse trail.marks.items) (reverse trail.numbers.items) caps
+
+-- the groups as they were when the trail was empty
+unfoldable pub groups_under : Trail → Caps → Caps
+groups_under trail caps = undone (reverse trail.marks.items) caps
+
+abbrev pub hit_at : Caps → ℕ → Hit
+hit_at caps end = record { end = end; caps = caps }
+
+-- what carrying out an instruction at pos leaves, and what to undo, is what it does
+abbrev pub Does : Did → Acted → ℕ → Trail → Caps → Trail → Caps → Type 0
+Does Succeeds (A.Succeeds end) pos old before new after = (end ≡ pos) × (after ≡ before)
+Does Succeeds (A.Costs n) pos old before new after = ⊥
+Does Succeeds (A.Waits w) pos old before new after = ⊥
+Does (Goes cost threads) (A.Succeeds end) pos old before new after = ⊥
+Does (Goes cost threads) (A.Costs n) pos old before new after = (n ≡ cost) × (plains new after ≡ threads ++ plains old before) × (0 < n)
+Does (Goes cost threads) (A.Waits w) pos old before new after = ⊥
+Does (Waits inner negative stays rest) (A.Succeeds end) pos old before new after = ⊥
+Does (Waits inner negative stays rest) (A.Costs n) pos old before new after = ⊥
+Does (Waits inner negative stays rest) (A.Waits w) pos old before new after =
+    (plains w.inner after ≡ inner) × (groups_under w.inner after ≡ after) × (w.negative ≡ negative) × (w.stays ≡ stays)
+    × (plain w.rest (numbers_of new) after ≡ rest) × (plains new after ≡ plains old before)
+
+abbrev pub Acts : Subject → Instr → ℕ → Trail → Caps → Trail → Caps → Acted → Type 0
+Acts s i pos old before new after acted = Does (exec s i (numbers_of old) pos before) acted pos old before new after

@@ -15,7 +15,7 @@ ghost use Rattle.std.specs.Prelude.{◌≡◌, ℕ, [], ◌∷◌, ◌++◌, len
 ghost use Rattle.tm_onig_class.specs.Tree.{tree_of, trees};
 ghost use Rattle.tm_onig_vm.specs.Code.{Code, AheadCode, BehindCode, RowCode, AnyCode, Grows, IsCodeOf};
 
-use crate::copies::{copy_groups, copy_set};
+use crate::copies::copy_set;
 use crate::widths;
 use sqlite_items::Items;
 use std::alloc::Global;
@@ -229,11 +229,11 @@ fn emit(
             emit_behind(alloc, code, body, *negative, next)
         }
         Pattern::Back { groups, fold } => {
-            let own = copy_groups(alloc, groups.as_slice())?;
+            let own = Vec::from_slice(alloc, groups.as_slice())?;
             push(
                 code,
                 Instr::Read {
-                    groups: own,
+                    groups: Items::from_vec(own),
                     fold: *fold,
                     next,
                 },

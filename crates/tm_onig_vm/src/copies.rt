@@ -16,12 +16,6 @@ pub(crate) fn copy_set(set: &Set) -> Result<Set, OutOfMemory>
     Ok(copy)
 }
 
-pub(crate) fn copy_groups(alloc: Global, groups: &[u32]) -> Result<Items<u32>, OutOfMemory>
-    ensures { IfOk result (λ copy. copy ≡ groups.now) }
-{
-    Ok(Items::from_vec(Vec::from_slice(alloc, groups)?))
-}
-
 /// An equal pattern.
 #[cycle(copy)]
 #[tactic(auto, using(tm_onig_class::proofs::Trees::nodes))]
@@ -76,7 +70,7 @@ pub(crate) fn copy(alloc: Global, pattern: &Pattern) -> Result<Pattern, OutOfMem
             })
         }
         Pattern::Back { groups, fold } => Ok(Pattern::Back {
-            groups: copy_groups(alloc, groups.as_slice())?,
+            groups: Items::from_vec(Vec::from_slice(alloc, groups.as_slice())?),
             fold: *fold,
         }),
         Pattern::Position(place) => Ok(Pattern::Position(*place)),

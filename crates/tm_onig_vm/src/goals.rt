@@ -216,7 +216,7 @@ fn turn<'a>(
 }
 
 /// A group, if it is set.
-fn group_at(caps: &[Option<(u32, u32)>], number: u32) -> Option<(u32, u32)>
+pub(crate) fn group_at(caps: &[Option<(u32, u32)>], number: u32) -> Option<(u32, u32)>
     ensures { result ≡ option_and_then (λ c. c) (slice_get caps.now number) }
 {
     match caps.get(number as usize) {
@@ -333,13 +333,13 @@ fn enter<'a>(
     }
 }
 
-/// The group is set, if there is one of this number.
-pub(crate) fn set_group(caps: &mut [Option<(u32, u32)>], number: u32, start: u32, end: u32)
-    ensures { caps.new ≡ slice_set caps.old number (Some (start, end)) }
+/// The group is this, if there is one of this number.
+pub(crate) fn set_group(caps: &mut [Option<(u32, u32)>], number: u32, group: Option<(u32, u32)>)
+    ensures { caps.new ≡ slice_set caps.old number group }
 {
     let at = number as usize;
     if at < caps.len() {
-        caps[at] = Some((start, end));
+        caps[at] = group;
     }
 }
 
@@ -362,7 +362,7 @@ pub(crate) fn pursue<'a>(
     match goal {
         Goal::Match(pattern) => enter(alloc, line, anchors, branches, pattern, goals, pos, caps),
         Goal::Close { number, start } => {
-            set_group(caps.as_mut_slice(), number, start, pos as u32);
+            set_group(caps.as_mut_slice(), number, Some((start, pos as u32)));
             go_on(branches, goals, pos, caps)
         }
         Goal::At(end) => go_if(branches, goals, pos, caps, pos == end),

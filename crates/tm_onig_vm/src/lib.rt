@@ -2,7 +2,7 @@
 //!
 //! A pattern becomes a program (`program::compile`), and `program::find` gives the groups of the match
 //! with the least start, taking from a budget what the search costs. `code` is the code of a pattern,
-//! `thread`, `machine` and `running` the machine that carries it out, and `plain` a search over the tree
+//! `trail`, `machine` and `running` the machine that carries it out, and `plain` a search over the tree
 //! itself with the same contract, which tests compare with the machine.
 #![tactic(auto)]
 
@@ -17,7 +17,7 @@ pub mod program;
 mod running;
 #[cfg(test)]
 mod tests;
-mod thread;
+mod trail;
 mod widths;
 
 pub use plain::find_plainly;

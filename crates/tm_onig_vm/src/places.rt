@@ -18,22 +18,18 @@ pub struct Anchors {
     pub allow_g: bool,
 }
 
-/// Whether the two characters match.
-pub(crate) fn is_match(fold: bool, c: char, d: char) -> bool
-    ensures { result ≡ matches fold c d }
-{
-    if fold {
-        return simple_fold(d) == simple_fold(c);
-    }
-    d == c
-}
-
 /// Whether the character `c` stands at the position.
 pub(crate) fn has_char(line: &[char], pos: usize, c: char, fold: bool) -> bool
     ensures { result ≡ passes (matches fold c) (slice_get line.now pos) }
 {
     match line.get(pos) {
-        Some(d) => is_match(fold, c, *d),
+        Some(d) => {
+            if fold {
+                simple_fold(*d) == simple_fold(c)
+            } else {
+                *d == c
+            }
+        }
         None => false,
     }
 }
@@ -48,21 +44,12 @@ pub(crate) fn has_any(line: &[char], pos: usize, newline: bool) -> bool
     }
 }
 
-fn is_member(set: &Set, d: char, fold: bool) -> bool
-    ensures { result ≡ in_set set.now fold d }
-{
-    if fold {
-        return set.fold_has(d);
-    }
-    set.has(d)
-}
-
 /// Whether a member of the set stands at the position.
 pub(crate) fn has_member(line: &[char], pos: usize, set: &Set, fold: bool) -> bool
     ensures { result ≡ passes (in_set set.now fold) (slice_get line.now pos) }
 {
     match line.get(pos) {
-        Some(d) => is_member(set, *d, fold),
+        Some(d) => { if fold { set.fold_has(*d) } else { set.has(*d) } }
         None => false,
     }
 }
@@ -74,12 +61,6 @@ fn char_before(line: &[char], pos: usize) -> Option<char>
         return None;
     }
     line.get(pos - 1).copied()
-}
-
-fn char_after(line: &[char], pos: usize) -> Option<char>
-    ensures { result ≡ after line.now pos }
-{
-    line.get(pos).copied()
 }
 
 fn is_line_break(o: Option<char>) -> bool
@@ -104,7 +85,7 @@ fn is_word_edge(line: &[char], pos: usize) -> bool
     ensures { result ≡ at_word line.now pos }
 {
     let left = is_word_char(char_before(line, pos));
-    let right = is_word_char(char_after(line, pos));
+    let right = is_word_char(line.get(pos).copied());
     if left { !right } else { right }
 }
 
@@ -118,11 +99,11 @@ pub(crate) fn is_at_place(line: &[char], anchors: Anchors, place: Position, pos:
         Position::LineStart => {
             (pos == 0) | (is_line_break(char_before(line, pos)) & (pos < line.len()))
         }
-        Position::LineEnd => (pos == line.len()) | is_line_break(char_after(line, pos)),
+        Position::LineEnd => (pos == line.len()) | is_line_break(line.get(pos).copied()),
         Position::TextStart => anchors.allow_a & (pos == 0),
         Position::SearchStart => anchors.allow_g & (pos == anchors.first),
         Position::BeforeFinal => {
-            (pos == line.len()) | ((pos + 1 == line.len()) & is_line_break(char_after(line, pos)))
+            (pos == line.len()) | ((pos + 1 == line.len()) & is_line_break(line.get(pos).copied()))
         }
         Position::TextEnd => (pos == line.len()) & !is_line_break(char_before(line, pos)),
         Position::Word => is_word_edge(line, pos),

@@ -294,7 +294,7 @@ pub(crate) fn with_whole(found: Found, start: usize) -> Caps
     ensures { result ≡ with_whole start (hit_of found) }
 {
     let Found { end, mut caps } = found;
-    set_group(caps.as_mut_slice(), 0, start as u32, end as u32);
+    set_group(caps.as_mut_slice(), 0, Some((start as u32, end as u32)));
     Caps::new(caps)
 }
 

@@ -4,9 +4,9 @@
 //! that the machine carries out.
 ghost use Rattle.std.specs.Prelude.{◌≡◌, ℕ, ◌+◌, ◌^◌, ◌<◌, ◌≤◌, length, option_map, OnOk, IfOk, IsErrOf};
 ghost use Rattle.tm_onig_class.specs.Tree.{tree_of};
-ghost use Rattle.tm_onig_search.specs.Find.{at_start, first_match, search_cost};
+ghost use Rattle.tm_onig_search.specs.Find.{at_start, blank, first_match, search_cost};
 ghost use Rattle.tm_onig_vm.specs.Anchors.{subject_of};
-ghost use Rattle.tm_onig_vm.specs.Steps.{hit_of};
+ghost use Rattle.tm_onig_vm.specs.Threads.{groups_under, hit_at};
 
 use crate::code::{Instr, code_of};
 use crate::copies::copy;
@@ -15,7 +15,7 @@ use crate::goals::Found;
 use crate::places::Anchors;
 use crate::plain::{blank_caps, with_whole};
 use crate::running::run;
-use crate::thread::{Thread, begin};
+use crate::trail::{Trail, blank_trail, go, undo_all};
 use crate::widths::last_group;
 use std::alloc::Global;
 use std::marker::Model;
@@ -64,26 +64,30 @@ pub fn compile(alloc: Global, pattern: &Pattern) -> Result<Prog, OutOfMemory>
     })
 }
 
-/// The first success of the program at one start. `threads` is the room of the search, whatever is in it.
+/// Where the first success of the program at one start ends, and its groups are set then. `trail` is the
+/// room of the search: what is left there of another start is undone first.
 fn attempt_from(
     alloc: Global,
     line: &[char],
     anchors: Anchors,
     prog: &Prog,
     start: usize,
-    threads: &mut Vec<Thread>,
+    trail: &mut Trail,
+    caps: &mut [Option<(u32, u32)>],
     budget: &mut u64,
-) -> Result<Option<Found>, FindFault>
+) -> Result<Option<usize>, FindFault>
     requires small { length line.now < 2 ^ 31 }
     requires within { start ≤ length line.now }
-    ensures hit { IfOk result (λ found. option_map hit_of found ≡ (at_start (subject_of line.now anchors) (tree_of prog.now) start).hit) }
+    requires blank { groups_under trail.old caps.old ≡ blank (tree_of prog.now) }
+    ensures hit { IfOk result (λ found. option_map (hit_at caps.new) found ≡ (at_start (subject_of line.now anchors) (tree_of prog.now) start).hit) }
     ensures cost { OnOk result (budget.new + (at_start (subject_of line.now anchors) (tree_of prog.now) start).cost ≡ budget.old) }
     ensures over { IsErrOf result FindFault.Budget → budget.old < (at_start (subject_of line.now anchors) (tree_of prog.now) start).cost }
     ensures falls { (budget.new ≤ budget.old) × (budget.old ≤ budget.new + (at_start (subject_of line.now anchors) (tree_of prog.now) start).cost) }
+    ensures kept { OnOk result (groups_under trail.new caps.new ≡ blank (tree_of prog.now)) }
 {
-    let blank = blank_caps(alloc, prog.groups as usize + 1)?;
-    begin(alloc, threads, prog.first, start, blank)?;
-    run(alloc, line, anchors, &prog.code, threads, budget)
+    undo_all(trail, caps);
+    go(trail, prog.first, start)?;
+    run(alloc, line, anchors, &prog.code, trail, caps, budget)
 }
 
 /// The groups of the match with the least start from `from` on, the whole match first, or none where
@@ -114,11 +118,21 @@ pub fn find(
         allow_a,
         allow_g,
     };
-    let mut threads = Vec::new(alloc);
+    let mut trail = blank_trail(alloc);
+    let mut caps = blank_caps(alloc, prog.groups as usize + 1)?;
     'starts: for start in from..chars.len() + 1 {
-        match attempt_from(alloc, chars, anchors, prog, start, &mut threads, budget) {
+        match attempt_from(
+            alloc,
+            chars,
+            anchors,
+            prog,
+            start,
+            &mut trail,
+            caps.as_mut_slice(),
+            budget,
+        ) {
             Ok(None) => {}
-            Ok(Some(found)) => return Ok(Some(with_whole(found, start))),
+            Ok(Some(end)) => return Ok(Some(with_whole(Found { end, caps }, start))),
             Err(fault) => return Err(fault),
         }
     }

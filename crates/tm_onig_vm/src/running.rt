@@ -3,45 +3,45 @@ ghost use Rattle.std.specs.Prelude.{◌≡◌, ℕ, ◌+◌, ◌^◌, ◌<◌, �
 ghost use Rattle.tm_onig_search.specs.Outcomes.{Outcome};
 ghost use Rattle.tm_onig_vm.specs.Anchors.{subject_of};
 ghost use Rattle.tm_onig_vm.specs.Machine.{AllMean};
-ghost use Rattle.tm_onig_vm.specs.Steps.{hit_of};
-ghost use Rattle.tm_onig_vm.specs.Threads.{plains};
+ghost use Rattle.tm_onig_vm.specs.Threads.{plains, groups_under, hit_at};
 
 use crate::code::Instr;
 use crate::fault::FindFault;
-use crate::goals::Found;
 use crate::machine::{Acted, Waiting, act, instr_at};
 use crate::places::Anchors;
-use crate::thread::{Thread, resume};
+use crate::trail::{Trail, next_way, resume};
 use std::alloc::Global;
 
-/// The first success of the threads, which are used up. Each case that is entered takes one from the
-/// budget.
+/// Where the first success of the ways ends, and its groups are set then. Each case that is entered takes
+/// one from the budget.
 pub(crate) fn run(
     alloc: Global,
     line: &[char],
     anchors: Anchors,
     code: &[Instr],
-    threads: &mut Vec<Thread>,
+    trail: &mut Trail,
+    caps: &mut [Option<(u32, u32)>],
     budget: &mut u64,
-) -> Result<Option<Found>, FindFault>
-    requires stands { (o : Outcome) × AllMean (subject_of line.now anchors) code.now (plains threads.old.items) o }
+) -> Result<Option<usize>, FindFault>
+    requires stands { (o : Outcome) × AllMean (subject_of line.now anchors) code.now (plains trail.old caps.old) o }
     requires small { length line.now < 2 ^ 31 }
-    ensures hit { (o : Outcome) → AllMean (subject_of line.now anchors) code.now (plains threads.old.items) o → IfOk result (λ found. option_map hit_of found ≡ o.hit) }
-    ensures cost { (o : Outcome) → AllMean (subject_of line.now anchors) code.now (plains threads.old.items) o → OnOk result (budget.new + o.cost ≡ budget.old) }
-    ensures over { (o : Outcome) → AllMean (subject_of line.now anchors) code.now (plains threads.old.items) o → IsErrOf result FindFault.Budget → budget.old < o.cost }
-    ensures falls { (o : Outcome) → AllMean (subject_of line.now anchors) code.now (plains threads.old.items) o → (budget.new ≤ budget.old) × (budget.old ≤ budget.new + o.cost) }
+    ensures hit { (o : Outcome) → AllMean (subject_of line.now anchors) code.now (plains trail.old caps.old) o → IfOk result (λ found. option_map (hit_at caps.new) found ≡ o.hit) }
+    ensures cost { (o : Outcome) → AllMean (subject_of line.now anchors) code.now (plains trail.old caps.old) o → OnOk result (budget.new + o.cost ≡ budget.old) }
+    ensures over { (o : Outcome) → AllMean (subject_of line.now anchors) code.now (plains trail.old caps.old) o → IsErrOf result FindFault.Budget → budget.old < o.cost }
+    ensures falls { (o : Outcome) → AllMean (subject_of line.now anchors) code.now (plains trail.old caps.old) o → (budget.new ≤ budget.old) × (budget.old ≤ budget.new + o.cost) }
+    ensures kept { OnOk result (groups_under trail.new caps.new ≡ groups_under trail.old caps.old) }
 {
-    'steps: while let Some(thread) = threads.pop() {
-        let Some(instr) = instr_at(code, thread.pc) else {
+    'steps: while let Some(way) = next_way(trail, caps)? {
+        let Some(instr) = instr_at(code, way.pc) else {
             return Ok(None);
         };
-        match act(alloc, line, anchors, instr, thread, threads)? {
-            Acted::Succeeds(found) => {
+        match act(alloc, line, anchors, instr, way.pos, trail, caps)? {
+            Acted::Succeeds(end) => {
                 if *budget == 0 {
                     return Err(FindFault::Budget);
                 }
                 *budget -= 1;
-                return Ok(Some(found));
+                return Ok(Some(end));
             }
             Acted::Costs(cost) => {
                 if *budget < cost {
@@ -60,8 +60,8 @@ pub(crate) fn run(
                     stays,
                     rest,
                 } = waiting;
-                match run(alloc, line, anchors, code, &mut inner, budget) {
-                    Ok(found) => resume(threads, negative, stays, rest, found)?,
+                match run(alloc, line, anchors, code, &mut inner, caps, budget) {
+                    Ok(found) => resume(trail, caps, inner, negative, stays, rest, found)?,
                     Err(fault) => return Err(fault),
                 }
             }

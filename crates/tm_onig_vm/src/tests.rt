@@ -1,5 +1,6 @@
 ghost use Rattle.std.specs.Prelude.{◌<◌, ◌^◌, length, IfOk};
 
+use crate::code::{Instr, code_of};
 use crate::fault::FindFault;
 use crate::plain::find_plainly;
 use crate::program::{compile, find};
@@ -53,39 +54,6 @@ fn body(alloc: Global, stack: &mut Vec<Pattern>) -> Result<Box<Pattern>, Fail> {
     Ok(Box::new(alloc, stack.pop().ok_or("a body")?)?)
 }
 
-fn look(
-    alloc: Global,
-    stack: &mut Vec<Pattern>,
-    ahead: bool,
-    negative: bool,
-) -> Result<Pattern, Fail> {
-    let body = body(alloc, stack)?;
-    Ok(Pattern::Look {
-        body,
-        ahead,
-        negative,
-    })
-}
-
-fn set(alloc: Global, name: char) -> Result<Pattern, Fail> {
-    let listed = if name == 'w' {
-        Listed::Word
-    } else {
-        Listed::Digit
-    };
-    Ok(Pattern::Set {
-        set: Set::listed(alloc, listed)?,
-        fold: false,
-    })
-}
-
-fn back(alloc: Global, group: char, fold: bool) -> Result<Pattern, Fail> {
-    Ok(Pattern::Back {
-        groups: Items::from_vec(vec![in alloc; digit(group)]?),
-        fold,
-    })
-}
-
 const PLACES: [Position; 8] = [
     Position::LineStart,
     Position::LineEnd,
@@ -103,7 +71,14 @@ fn node(alloc: Global, stack: &mut Vec<Pattern>, sign: &[char]) -> Result<Patter
         ['\'', c] => Ok(Pattern::Char { c: *c, fold: false }),
         ['"', c] => Ok(Pattern::Char { c: *c, fold: true }),
         ['.', m] => Ok(Pattern::Any { newline: *m == 'm' }),
-        ['s', name] => set(alloc, *name),
+        ['s', 'w'] => Ok(Pattern::Set {
+            set: Set::listed(alloc, Listed::Word)?,
+            fold: false,
+        }),
+        ['s', _] => Ok(Pattern::Set {
+            set: Set::listed(alloc, Listed::Digit)?,
+            fold: false,
+        }),
         ['S', c] => Ok(Pattern::Set {
             set: Set::range(alloc, *c, *c)?,
             fold: true,
@@ -121,12 +96,15 @@ fn node(alloc: Global, stack: &mut Vec<Pattern>, sign: &[char]) -> Result<Patter
             greatest: greatest.to_digit(10),
             greedy: *greed == 'g',
         }),
-        ['='] => look(alloc, stack, true, false),
-        ['!'] => look(alloc, stack, true, true),
-        ['<'] => look(alloc, stack, false, false),
-        ['~'] => look(alloc, stack, false, true),
-        ['\\', group] => back(alloc, *group, false),
-        ['/', group] => back(alloc, *group, true),
+        [kind @ ('=' | '!' | '<' | '~')] => Ok(Pattern::Look {
+            body: body(alloc, stack)?,
+            ahead: (*kind == '=') | (*kind == '!'),
+            negative: (*kind == '!') | (*kind == '~'),
+        }),
+        [kind @ ('\\' | '/'), group] => Ok(Pattern::Back {
+            groups: Items::from_vec(vec![in alloc; digit(*group)]?),
+            fold: *kind == '/',
+        }),
         ['p', place] => {
             let place = PLACES.get(digit(*place) as usize).ok_or("a place")?;
             Ok(Pattern::Position(*place))
@@ -151,13 +129,6 @@ fn tree(alloc: Global, text: &str) -> Result<Pattern, Fail> {
     Ok(stack.pop().ok_or("a tree")?)
 }
 
-fn group(alloc: Global, group: Option<(u32, u32)>) -> Result<String, AllocError> {
-    match group {
-        Some((start, end)) => format!(in alloc; "{start}..{end} "),
-        None => format!(in alloc; "- "),
-    }
-}
-
 /// The groups, and what the search took from the budget.
 fn shown(alloc: Global, found: &Option<Caps>, cost: u64) -> Result<String, AllocError> {
     let Some(caps) = found else {
@@ -165,7 +136,10 @@ fn shown(alloc: Global, found: &Option<Caps>, cost: u64) -> Result<String, Alloc
     };
     let mut text = String::new(alloc);
     for set in caps.as_slice() {
-        text.push_str(&group(alloc, *set)?)?;
+        match set {
+            Some((start, end)) => text.push_str(&format!(in alloc; "{start}..{end} ")?)?,
+            None => text.push_str("- ")?,
+        }
     }
     let text = text.trim_end();
     format!(in alloc; "{text}; {cost}")
@@ -307,37 +281,76 @@ const ROWS: [(&str, &str, u32, &str, &str); 118] = [
     ("'a{1-g{1-g'bC2", "aaaa", 0, "ag", "none; 228"),
 ];
 
-/// What both searches give, which must be the same.
-fn both(
-    alloc: Global,
-    notation: &str,
-    text: &Line,
-    from: u32,
-    flags: &str,
-) -> Result<(String, String), Fail>
-    requires { length text.now < 2 ^ 31 }
-{
-    let pattern = tree(alloc, notation)?;
-    let allow_a = flags.contains('a');
-    let allow_g = flags.contains('g');
-    let mut budget = 1_000_000;
-    let found = find_plainly(alloc, &pattern, text, from, allow_a, allow_g, &mut budget)?;
-    let plain = shown(alloc, &found, 1_000_000 - budget)?;
-    let prog = compile(alloc, &pattern)?;
-    let mut budget = 1_000_000;
-    let found = find(alloc, &prog, text, from, allow_a, allow_g, &mut budget)?;
-    Ok((plain, shown(alloc, &found, 1_000_000 - budget)?))
-}
-
+// Both searches give the same.
 #[test]
 fn finds(rt: HostRuntime) -> Result<(), Fail> {
     let alloc = rt.alloc();
     for (notation, text, from, flags, wanted) in ROWS.iter() {
         let text = line(alloc, text)?;
-        let (plain, compiled) = both(alloc, notation, &text, *from, flags)?;
-        assert_eq!(rt; plain.as_str(), *wanted);
-        assert_eq!(rt; compiled.as_str(), *wanted);
+        let pattern = tree(alloc, notation)?;
+        let prog = compile(alloc, &pattern)?;
+        let allow_a = flags.contains('a');
+        let allow_g = flags.contains('g');
+        let mut budget = 1_000_000;
+        let found = find_plainly(alloc, &pattern, &text, *from, allow_a, allow_g, &mut budget)?;
+        assert_eq!(rt; shown(alloc, &found, 1_000_000 - budget)?.as_str(), *wanted);
+        let mut budget = 1_000_000;
+        let found = find(alloc, &prog, &text, *from, allow_a, allow_g, &mut budget)?;
+        assert_eq!(rt; shown(alloc, &found, 1_000_000 - budget)?.as_str(), *wanted);
     }
+    Ok(())
+}
+
+// The code of `(a|b)*c`, from 0 on: the listing at the head of `code.rt`.
+const LISTING: [&str; 10] = [
+    "Accept",
+    "Char c, then 0",
+    "Again 7, then 1",
+    "Close 1, then 2",
+    "Char a, then 3",
+    "Char b, then 3",
+    "Choice of 4, 5",
+    "Open, then 6",
+    "Loop 7, then 1",
+    "Step, then 8",
+];
+
+/// An instruction as the listing writes it.
+fn written(alloc: Global, instr: &Instr) -> Result<String, AllocError> {
+    match instr {
+        Instr::Accept => format!(in alloc; "Accept"),
+        Instr::Char { c, next, .. } => format!(in alloc; "Char {c}, then {next}"),
+        Instr::Again { body, next, .. } => format!(in alloc; "Again {body}, then {next}"),
+        Instr::Close { number, next } => format!(in alloc; "Close {number}, then {next}"),
+        Instr::Choice { targets } => match targets.as_slice() {
+            [first, second] => format!(in alloc; "Choice of {first}, {second}"),
+            _ => format!(in alloc; "Choice"),
+        },
+        Instr::Open { next } => format!(in alloc; "Open, then {next}"),
+        Instr::Loop { body, next, .. } => format!(in alloc; "Loop {body}, then {next}"),
+        Instr::Step { next } => format!(in alloc; "Step, then {next}"),
+        _ => format!(in alloc; "not in the listing"),
+    }
+}
+
+#[test]
+fn code_is_as_listed(rt: HostRuntime) -> Result<(), Fail> {
+    let alloc = rt.alloc();
+    let pattern = tree(alloc, "'a'bA2(1{0-g'cC2")?;
+    let (code, first) = code_of(alloc, &pattern)?;
+    assert_eq!(rt; first, 9);
+    assert_eq!(rt; code.len(), LISTING.len());
+    for (instr, wanted) in code.iter().zip(LISTING.iter()) {
+        assert_eq!(rt; written(alloc, instr)?.as_str(), *wanted);
+    }
+    let prog = compile(alloc, &pattern)?;
+    let text = line(alloc, "abc")?;
+    let mut budget = 100;
+    let found = find(alloc, &prog, &text, 0, true, true, &mut budget)?;
+    assert_eq!(rt;
+        shown(alloc, &found, 100 - budget)?.as_str(),
+        "0..3 1..2; 21"
+    );
     Ok(())
 }
 

@@ -98,11 +98,11 @@ emit-returns-in_ok-own-in-Set t c =
 
 pub emit-returns-in_ok-own-in-Back : goal.emit-returns-in_ok-own-in-Back
 emit-returns-in_ok-own-in-Back t c =
-    let same = c.in_ok-own-in-Back.ensures ∙ c.as_slice-in-Back.ensures in
+    let same = c.from_vec-in-Back.ensures ∙ c.in_ok-own-in-Back.ensures.items ∙ c.as_slice-in-Back.ensures in
     IfOk-weaker c.push-in-Back.result _ _
     (λ pc made. rw (c.in-Back.is, tree_of-Back c.in-Back.groups c.in-Back.fold, ← same)
-    (leaf_done c.args.code.now.items c.args.code.now.items c.push-in-Back.new.code.items (I.Read c.in_ok-own-in-Back.own c.in-Back.fold c.args.next) pc c.args.next
-    (grows_refl c.args.code.now.items) made.0 made.1 (Back c.in_ok-own-in-Back.own c.in-Back.fold) (λ e. e)))
+    (leaf_done c.args.code.now.items c.args.code.now.items c.push-in-Back.new.code.items (I.Read c.from_vec-in-Back.result c.in-Back.fold c.args.next) pc c.args.next
+    (grows_refl c.args.code.now.items) made.0 made.1 (Back c.from_vec-in-Back.result c.in-Back.fold) (λ e. e)))
     c.push-in-Back.ensures
 
 pub emit-returns-in-Position : goal.emit-returns-in-Position
