@@ -1,0 +1,5 @@
+mod Depths
+mod Large
+mod Misfits
+pub mod Lookups
+mod Utf8Values

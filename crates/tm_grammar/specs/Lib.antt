@@ -1,0 +1,9 @@
+pub mod Paths
+pub mod Numbers
+pub mod Shapes
+pub mod Wrong
+pub mod Tree
+pub mod File
+pub mod Answer
+pub mod Walk
+pub mod Rows

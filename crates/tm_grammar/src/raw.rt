@@ -1,0 +1,64 @@
+//! The raw tree.
+ghost use Rattle.std.specs.Prelude.{◌≡◌};
+
+use sqlite_items::Items;
+use tm_defs::texts::Name;
+
+pub type RawCaptures = Items<(u32, RawRule)>;
+
+pub type RawList = Items<RawRule>;
+
+pub type RawNames = Items<(Name, RawRule)>;
+
+#[derive(Drop)]
+pub struct RawRule {
+    pub path: Name,
+    pub name: Option<Name>,
+    pub content_name: Option<Name>,
+    pub match_text: Option<Name>,
+    pub begin: Option<Name>,
+    pub end_text: Option<Name>,
+    pub while_text: Option<Name>,
+    pub include: Option<Name>,
+    pub captures: Option<RawCaptures>,
+    pub begin_captures: Option<RawCaptures>,
+    pub end_captures: Option<RawCaptures>,
+    pub while_captures: Option<RawCaptures>,
+    pub patterns: Option<RawList>,
+    pub repository: RawNames,
+    pub end_last: bool,
+}
+
+impl RawRule {
+    ghost use Rattle.tm_grammar.specs.Tree.{blank};
+    ghost use Rattle.tm_grammar.specs.declared.raw.RawRule.TheViews.{roll-RawRule};
+
+    /// The rule at a path with these keys alone.
+    pub(crate) fn plain(
+        path: Name,
+        name: Option<Name>,
+        content_name: Option<Name>,
+        patterns: Option<RawList>,
+        repository: RawNames,
+    ) -> RawRule
+        ensures { result ≡ roll-RawRule (record (blank path) { name = name; content_name = content_name; patterns = patterns; repository = repository }) }
+    {
+        RawRule {
+            path,
+            name,
+            content_name,
+            match_text: None,
+            begin: None,
+            end_text: None,
+            while_text: None,
+            include: None,
+            captures: None,
+            begin_captures: None,
+            end_captures: None,
+            while_captures: None,
+            patterns,
+            repository,
+            end_last: false,
+        }
+    }
+}
