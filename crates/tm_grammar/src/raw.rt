@@ -1,17 +1,24 @@
-//! The raw tree.
+//! The raw tree of a grammar file: what its rules say, before anything is made of it (TextMate 1.x manual,
+//! Language Grammars, with the keys of vscode-textmate).
 ghost use Rattle.std.specs.Prelude.{◌≡◌};
 
 use sqlite_items::Items;
 use tm_defs::texts::Name;
 
+/// Captures with the numbers of their groups, below 65,536, in the order of the walk. Of equal numbers the
+/// last counts.
 pub type RawCaptures = Items<(u32, RawRule)>;
 
+/// The rules of a list, in its order.
 pub type RawList = Items<RawRule>;
 
+/// The rules of an object with their names, in the order of the names' bytes.
 pub type RawNames = Items<(Name, RawRule)>;
 
+/// A rule as its object says it: each text as it stands, none where the key is absent.
 #[derive(Drop)]
 pub struct RawRule {
+    /// The JSON Pointer of the rule, from the file's root.
     pub path: Name,
     pub name: Option<Name>,
     pub content_name: Option<Name>,
@@ -25,7 +32,9 @@ pub struct RawRule {
     pub end_captures: Option<RawCaptures>,
     pub while_captures: Option<RawCaptures>,
     pub patterns: Option<RawList>,
+    /// Empty where the key is absent.
     pub repository: RawNames,
+    /// Whether `end` is tried last: true under `applyEndPatternLast`, also where that is a number but 0.
     pub end_last: bool,
 }
 
