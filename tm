@@ -1,5 +1,5 @@
 #!/bin/sh
-# Proves and builds the program on first use, and runs it: ./tm replay SETTINGS FILE SCRIPT
+# Proves and builds the program on first use, and runs it: ./tm scan SETTINGS FILE
 top=$(cd "$(dirname "$0")" && pwd) || exit 1
 program="$top/crates/tm_prog/out/tm_prog"
 changed=$(find "$top/crates" "$top/crates.txt" -path '*/out' -prune -o \

@@ -2,15 +2,15 @@
 //! writes what they print. Files and sinks are whatever the caller hands in.
 #![tactic(auto)]
 
-pub mod hex;
+mod hex;
 pub mod outcome;
-pub mod play;
-pub mod printed;
-pub mod reading;
+mod play;
+mod printed;
+mod reading;
 pub mod report;
 #[cfg(test)]
 mod scan_tests;
-pub mod setup;
+mod setup;
 pub mod status;
 #[cfg(test)]
 mod tests;
