@@ -3,12 +3,13 @@ use Rattle.std.proofs.Common.{◌≡◌, ℕ, zero, suc, ◌+◌, ◌≤◌, Boo
 use Rattle.std.specs.Prelude.{nat_le, ◌&&◌, ◌==◌, if◌then◌else◌}
 use Rattle.std.specs.List.{list_all}
 use Rattle.tm_onig_class.specs.Tree.{Tree, Char, Any, Holds, trees}
+use Rattle.tm_onig_class.specs.declared.patterns.Position.{Position}
 use Rattle.tm_onig_class.specs.declared.patterns.Position.TheVariants as Place
 use Rattle.tm_onig_class.specs.declared.listed.Listed.{Listed}
 use Rattle.tm_onig_class.specs.Groups.{group_numbers, numbers_in, references, references_in, counted, IsNumbered}
 use Rattle.tm_onig_parse.specs.declared.options.Options.{Options}
 use Rattle.tm_onig_parse.specs.declared.groups.Opener.TheVariants.{Captures, Groups}
-use Rattle.tm_onig_parse.specs.Characters.{no_options, is_special, single_tree, set_letter, escaped_char, set_or_char, escape_tree}
+use Rattle.tm_onig_parse.specs.Characters.{no_options, is_special, single_tree, set_letter, escaped_char, set_or_char, place_letter, place_or_other, escape_tree}
 use Rattle.tm_onig_parse.specs.Grammar.{Atom, Plain, Escaped, Class, IsAtom, Toks, Single, Opening, Closing, Bar, Times, spelling, AreToks, Alts, First, Also, Row, Nothing, Then, Piece, Alone, Inside, Repeated, written, written_row, written_piece, groups, groups_row, groups_piece}
 use Rattle.tm_onig_parse.specs.Meaning.{Built, tree_in, row_built, alts_built, atom_built, rows, parts, piece_built, meaning, Spells}
 
@@ -45,12 +46,16 @@ set_bare o (Some letter) c = record { numbers = refl; named = refl }
 set_bare o None (Some c) = record { numbers = refl; named = refl }
 set_bare o None None = tt
 
+-- a place, a set or a character
+place_bare : (o : Options) (place : Option Position) (c : ℕ) → MaybeBare (place_or_other o place c)
+unfolding group_numbers references
+place_bare o (Some place) c = record { numbers = refl; named = refl }
+place_bare o None c = either_bare (c == 107) None _ tt (set_bare o (set_letter c) (escaped_char c))
+
 -- what stands behind a backslash
 escape_bare : (o : Options) (c : ℕ) → MaybeBare (escape_tree o c)
-unfolding escape_tree group_numbers references
-escape_bare o c =
-    either_bare (c == 98) _ _ (bare (Holds Place.Word) refl refl)
-    (either_bare (c == 66) _ _ (bare (Holds Place.NotWord) refl refl) (set_bare o (set_letter c) (escaped_char c)))
+unfolding escape_tree
+escape_bare o c = place_bare o (place_letter c) c
 
 -- the tree of an atom
 atom_bare : (a : Atom) (o : Options) (rest : List ℕ) → IsAtom a o rest → IsBare (atom_built a).tree

@@ -76,6 +76,10 @@ fn word<'a>(
         Pattern::Empty => format!(in alloc; "empty"),
         Pattern::Char { c: '\n', .. } => format!(in alloc; "line-feed"),
         Pattern::Char { c: '\t', .. } => format!(in alloc; "tab"),
+        Pattern::Char { c, .. } if *c < ' ' => {
+            let code = *c as u32;
+            format!(in alloc; "code-{code}")
+        }
         Pattern::Char { c, fold: _ } => format!(in alloc; "'{c}"),
         Pattern::Any { newline: _ } => format!(in alloc; "any"),
         Pattern::Set { set, fold: _ } => {
@@ -124,12 +128,22 @@ ab => row 2 'a 'b
 \n => line-feed
 \t => tab
 \\ => '\
+\v => code-11
+\f => code-12
+\r => code-13
+\a => code-7
+\e => code-27
+\i\j\l\m\o\q => row 6 'i 'j 'l 'm 'o 'q
+\E\F\I\J\L\Q => row 6 'E 'F 'I 'J 'L 'Q
+\T\U\V => row 3 'T 'U 'V
 \é => 'é
 \- => '-
 a] => row 2 'a ']
 a} => row 2 'a '}
 ^a$ => row 3 LineStart 'a LineEnd
 \ba\B => row 3 Word 'a NotWord
+\Aa\Z => row 3 TextStart 'a BeforeFinal
+\Ga\z => row 3 SearchStart 'a TextEnd
 # sets
 \d => set[09]
 \D => set[abzA-]^&_.# é]
@@ -160,6 +174,11 @@ a} => row 2 'a '}
 [.] => set[.]
 [\t ] => set[ ]
 [\W\s] => set[-]^&.# ]
+[\a\v\f\r\e0] => set[0]
+[\b] => set[]
+[\A\B\Z\z] => set[zA]
+[\G\k9] => set[9]
+[a-\z] => set[abz]
 # groups and alternatives
 a|b => either 2 'a 'b
 a|b|c => either 3 'a 'b 'c
@@ -215,18 +234,32 @@ a++ =>
 ab*+ =>
 ab?+ =>
 \A =>
-\za =>
+\z =>
+\k<a>a =>
 (a)\1 =>
 \x41 =>
 \p{L} =>
-\a =>
-\Q =>
 [a&&b] =>
 [!-&&b] =>
 [a[b]] =>
 [[:alpha:]] =>
-[\b] =>
 [\x41] =>
+\0a =>
+\9a =>
+[\1] =>
+\g\a =>
+\Ka =>
+\Xa =>
+\Ra =>
+\ya =>
+\Ya =>
+\Na =>
+\Oa =>
+\ca =>
+\Ca =>
+\Ma =>
+[\g] =>
+[\ca] =>
 # never patterns
 *a =>
 + =>
@@ -258,7 +291,7 @@ fn texts_and_trees(rt: HostRuntime) -> Result<(), Fail> {
             assert_eq!(rt; found.as_str(), tree, "of {text}");
         }
     }
-    assert_eq!(rt; rows, 118);
+    assert_eq!(rt; rows, 147);
     Ok(())
 }
 

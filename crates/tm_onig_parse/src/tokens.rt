@@ -1,7 +1,7 @@
 //! The smallest things that are written, one at a time.
 ghost use Rattle.std.specs.Prelude.{◌≡◌, nat_lt, option_map, Some};
 ghost use Rattle.tm_onig_class.specs.Tree.{tree_of};
-ghost use Rattle.tm_onig_parse.specs.Characters.{single_tree, escape_tree, letter_tree, set_or_char, set_letter, escaped_char};
+ghost use Rattle.tm_onig_parse.specs.Characters.{single_tree, escape_tree, letter_tree, set_or_char, set_letter, escaped_char, place_letter};
 ghost use Rattle.tm_onig_parse.specs.Grammar.{sign_bounds};
 ghost use Rattle.tm_onig_parse.specs.Meaning.{leaf};
 ghost use Rattle.tm_onig_parse.specs.ClassReading.{class_at};
@@ -138,14 +138,32 @@ fn set_or_char(alloc: Global, options: Options, c: char) -> Result<Part, ParseFa
     }
 }
 
+/// The place that a letter stands for behind a backslash.
+#[tactic(auto, unfolding(crate::specs::Characters::place_letter))]
+fn place(c: char) -> Option<Position>
+    ensures { result ≡ place_letter c }
+{
+    match c {
+        'b' => Some(Position::Word),
+        'B' => Some(Position::NotWord),
+        'A' => Some(Position::TextStart),
+        'G' => Some(Position::SearchStart),
+        'Z' => Some(Position::BeforeFinal),
+        'z' => Some(Position::TextEnd),
+        _ => None,
+    }
+}
+
 /// What a character means behind a backslash.
 #[tactic(auto, using(tm_onig_class::proofs::Trees::nodes), unfolding(crate::specs::Characters::escape_tree, tm_onig_class::specs::Widths::least_width))]
 fn escape_part(alloc: Global, options: Options, c: char) -> Result<Part, ParseFault>
     ensures { Gives built_of result (option_map leaf (escape_tree options c)) }
 {
+    if let Some(place) = place(c) {
+        return Ok(leaf(Pattern::Position(place), false));
+    }
     match c {
-        'b' => Ok(leaf(Pattern::Position(Position::Word), false)),
-        'B' => Ok(leaf(Pattern::Position(Position::NotWord), false)),
+        'k' => Err(ParseFault::Unreadable),
         _ => set_or_char(alloc, options, c),
     }
 }
