@@ -6,7 +6,7 @@ use Rattle.std.proofs.lemmas.Bool.Decides.{nat_tests}
 use Rattle.tm_onig_class.specs.Tree.{trees}
 use Rattle.tm_onig_class.specs.Widths.{least_width, widths_sum, widths_least}
 use Rattle.tm_onig_parse.specs.declared.groups.Opener.{Opener}
-use Rattle.tm_onig_parse.specs.declared.groups.Opener.TheVariants.{Captures, Groups}
+use Rattle.tm_onig_parse.specs.declared.groups.Opener.TheVariants.{Captures, Groups, Holds, Looks}
 use Rattle.tm_onig_parse.specs.Grammar.{Atom, Plain, Escaped, Class, Alts, First, Also, Row, Nothing, Then, Piece, Alone, Inside, Repeated, count, groups, groups_row}
 use Rattle.tm_onig_parse.specs.Meaning.{Built, tree_in, any_takes, all_take, row_built, alts_built, enclosed, repeated, atom_built, rows, parts, piece_built, built, meaning}
 
@@ -78,6 +78,8 @@ enclosed_tied : (k : Opener) (n : ℕ) (b : Built) → Tied b → Tied (enclosed
 unfolding least_width
 enclosed_tied Captures n b is = is
 enclosed_tied Groups n b is = is
+enclosed_tied Holds n b is = is
+enclosed_tied (Looks ahead negative) n b is = refl
 
 -- a repetition
 repeated_tied : (least : ℕ) (greatest : Option ℕ) (greedy : Bool) (b : Built) → Tied b → Tied (repeated least greatest greedy b)

@@ -2,7 +2,7 @@
 use Rattle.std.proofs.Common.{◌≡◌, ℕ, ◌+◌, ◌≤◌, max, Bool, true, false, cond, List, [], ◌∷◌, ◌++◌, Option, arith}
 use Rattle.std.proofs.lemmas.Bool.Decides.{nat_tests}
 use Rattle.tm_onig_parse.specs.declared.groups.Opener.{Opener}
-use Rattle.tm_onig_parse.specs.declared.groups.Opener.TheVariants.{Captures, Groups}
+use Rattle.tm_onig_parse.specs.declared.groups.Opener.TheVariants.{Captures, Groups, Holds, Looks}
 use Rattle.tm_onig_parse.specs.Meaning.{Built, highest, row_built, alts_built, enclosed, repeated}
 
 -- the second is at most the greater
@@ -47,6 +47,8 @@ last_low (x ∷ xs) y h = last_low xs y (max_right x.height (highest (xs ++ y �
 pub enclosed_low : (k : Opener) (n : ℕ) (b : Built) → (enclosed k n b).height ≤ 200 → b.height ≤ 200
 enclosed_low Captures n b h = omega arith
 enclosed_low Groups n b h = omega arith
+enclosed_low Holds n b h = omega arith
+enclosed_low (Looks ahead negative) n b h = omega arith
 
 -- one more or none
 at_least : (is : Bool) (h : ℕ) → cond is (h + 1) h ≤ 200 → h ≤ 200

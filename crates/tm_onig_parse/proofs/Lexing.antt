@@ -4,7 +4,7 @@ use Rattle.std.specs.Prelude.{◌==◌}
 use Rattle.std.proofs.lemmas.Bool.{cases_Bool, eqb-true, eq-eqb}
 use Rattle.tm_onig_class.specs.Tree.{Tree}
 use Rattle.tm_onig_parse.specs.declared.options.Options.{Options}
-use Rattle.tm_onig_parse.specs.declared.groups.Opener.TheVariants.{Captures, Groups}
+use Rattle.tm_onig_parse.specs.declared.groups.Opener.TheVariants.{Captures, Groups, Holds, Looks}
 use Rattle.tm_onig_parse.specs.declared.classes.Member.{Member}
 use Rattle.tm_onig_parse.specs.Characters.{single_tree, escape_tree, is_special}
 use Rattle.tm_onig_parse.specs.Classes.{begins, Item, item_text, member_of, items_text, AreItems, class_text, IsClass}
@@ -12,7 +12,7 @@ use Rattle.tm_onig_parse.specs.Intervals.{NoBounds}
 use Rattle.tm_onig_parse.specs.Grammar.{Atom, Plain, Escaped, Class, atom_text, IsAtom, sign_bounds, Tok, Single, Opening, Closing, Bar, Times, text_of, IsTok}
 use Rattle.tm_onig_parse.specs.Meaning.{atom_built, class_built}
 use Rattle.tm_onig_parse.specs.ClassReading.{items_on, signed, class_at}
-use Rattle.tm_onig_parse.specs.Reading.{Sym, Means, Open, Close, Or, Repeats, Found, bounds_at, open_at, times_at, means, escape_at, means_class, sign_or, token_at}
+use Rattle.tm_onig_parse.specs.Reading.{Sym, Means, Open, Close, Or, Repeats, Found, bounds_at, open_at, behind_at, times_at, means, escape_at, means_class, sign_or, token_at}
 use Rattle.tm_onig_parse.proofs.ClassExact.{chosen, bind_ok, differs, items_found, items_again}
 use Rattle.tm_onig_parse.proofs.BoundsExact.{no_bounds, lacks_bounds}
 
@@ -142,10 +142,15 @@ atom_again (Class negated is) o rest are = class_token o negated is rest ∙ ap 
 
 -- A thing that is written is read.
 pub token_again : (k : Tok) (o : Options) (rest : List ℕ) → IsTok k o rest → token_at o (text_of k ++ rest) ≡ Some (sym_of k, rest)
-unfolding token_at open_at times_at
+unfolding token_at open_at behind_at times_at
 token_again (Single a) o rest is = atom_again a o rest is
 token_again (Opening Captures) o rest is = open_again rest is
 token_again (Opening Groups) o rest is = refl
+token_again (Opening Holds) o rest is = refl
+token_again (Opening (Looks true false)) o rest is = refl
+token_again (Opening (Looks true true)) o rest is = refl
+token_again (Opening (Looks false false)) o rest is = refl
+token_again (Opening (Looks false true)) o rest is = refl
 token_again Closing o rest is = refl
 token_again Bar o rest is = refl
 token_again (Times sign least greatest true) o rest is =
@@ -169,13 +174,37 @@ reads_by k o r y rest is e =
     let p = same_pair (sym_of k, r) (y, rest) e in
     subst (λ (p : Sym × List ℕ). Reads o (text_of k ++ r) p.0 p.1) p (record { tok = k; whole = refl; is = is; means = refl })
 
+-- a `(?<` that is read
+behind_found : (o : Options) (t : List ℕ) (y : Sym) (rest : List ℕ) → behind_at t ≡ Some (y, rest) → Reads o (40 ∷ 63 ∷ 60 ∷ t) y rest
+unfolding behind_at
+behind_found o [] y rest e = absurd cc
+behind_found o (c ∷ t) y rest e = elim (chosen (c == 61) _ _ _ e) [
+  | inl h ↦ rw (eqb-true c 61 h.0) (reads_by (Opening (Looks false false)) o t y rest tt h.1)
+  | inr h ↦ elim (chosen (c == 33) _ _ _ h.1) [
+    | inl g ↦ rw (eqb-true c 33 g.0) (reads_by (Opening (Looks false true)) o t y rest tt g.1)
+    | inr g ↦ absurd cc
+  ]
+]
+
 -- a `(?` that is read
 groups_found : (o : Options) (t : List ℕ) (y : Sym) (rest : List ℕ) → open_at (63 ∷ t) ≡ Some (y, rest) → Reads o (40 ∷ 63 ∷ t) y rest
 unfolding open_at
 groups_found o [] y rest e = absurd cc
 groups_found o (c ∷ t) y rest e = elim (chosen (c == 58) _ _ _ e) [
   | inl h ↦ rw (eqb-true c 58 h.0) (reads_by (Opening Groups) o t y rest tt h.1)
-  | inr h ↦ absurd cc
+  | inr h ↦ elim (chosen (c == 62) _ _ _ h.1) [
+    | inl g ↦ rw (eqb-true c 62 g.0) (reads_by (Opening Holds) o t y rest tt g.1)
+    | inr g ↦ elim (chosen (c == 61) _ _ _ g.1) [
+      | inl f ↦ rw (eqb-true c 61 f.0) (reads_by (Opening (Looks true false)) o t y rest tt f.1)
+      | inr f ↦ elim (chosen (c == 33) _ _ _ f.1) [
+        | inl d ↦ rw (eqb-true c 33 d.0) (reads_by (Opening (Looks true true)) o t y rest tt d.1)
+        | inr d ↦ elim (chosen (c == 60) _ _ _ d.1) [
+          | inl b ↦ rw (eqb-true c 60 b.0) (behind_found o t y rest b.1)
+          | inr b ↦ absurd cc
+        ]
+      ]
+    ]
+  ]
 ]
 
 -- a `(` that is read
@@ -298,6 +327,11 @@ pub text_length : (k : Tok) → 0 < length (text_of k)
 text_length (Single a) = atom_length a
 text_length (Opening Captures) = omega arith
 text_length (Opening Groups) = omega arith
+text_length (Opening Holds) = omega arith
+text_length (Opening (Looks true false)) = omega arith
+text_length (Opening (Looks true true)) = omega arith
+text_length (Opening (Looks false false)) = omega arith
+text_length (Opening (Looks false true)) = omega arith
 text_length Closing = omega arith
 text_length Bar = omega arith
 text_length (Times sign least greatest true) = omega arith

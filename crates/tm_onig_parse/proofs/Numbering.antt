@@ -8,7 +8,7 @@ use Rattle.tm_onig_class.specs.declared.patterns.Position.TheVariants as Place
 use Rattle.tm_onig_class.specs.declared.listed.Listed.{Listed}
 use Rattle.tm_onig_class.specs.Groups.{group_numbers, numbers_in, references, references_in, counted, IsNumbered}
 use Rattle.tm_onig_parse.specs.declared.options.Options.{Options}
-use Rattle.tm_onig_parse.specs.declared.groups.Opener.TheVariants.{Captures, Groups}
+use Rattle.tm_onig_parse.specs.declared.groups.Opener.TheVariants.{Captures, Groups, Holds, Looks}
 use Rattle.tm_onig_parse.specs.Characters.{no_options, is_special, single_tree, set_letter, escaped_char, set_or_char, place_letter, place_or_other, escape_tree}
 use Rattle.tm_onig_parse.specs.Grammar.{Atom, Plain, Escaped, Class, IsAtom, Toks, Single, Opening, Closing, Bar, Times, spelling, AreToks, Alts, First, Also, Row, Nothing, Then, Piece, Alone, Inside, Repeated, written, written_row, written_piece, groups, groups_row, groups_piece}
 use Rattle.tm_onig_parse.specs.Meaning.{Built, tree_in, row_built, alts_built, atom_built, rows, parts, piece_built, meaning, Spells}
@@ -216,6 +216,14 @@ mutual
       (counts_of _ _ _ _ (n + 1) (groups alts) (alts_numbers (rows alts (n + 1))) (alts_named (rows alts (n + 1)))
       (rows_count alts o (n + 1) (atoms_split (written alts o) ((Closing, o) ∷ []) are).0))
   piece_count (Inside Groups alts) o n are =
+      counts_same _ _ (n + 0) n (groups alts) (0 + groups alts) (omega arith) (omega arith)
+      (counts_of _ _ _ _ (n + 0) (groups alts) (alts_numbers (rows alts (n + 0))) (alts_named (rows alts (n + 0)))
+      (rows_count alts o (n + 0) (atoms_split (written alts o) ((Closing, o) ∷ []) are).0))
+  piece_count (Inside Holds alts) o n are =
+      counts_same _ _ (n + 0) n (groups alts) (0 + groups alts) (omega arith) (omega arith)
+      (counts_of _ _ _ _ (n + 0) (groups alts) (alts_numbers (rows alts (n + 0))) (alts_named (rows alts (n + 0)))
+      (rows_count alts o (n + 0) (atoms_split (written alts o) ((Closing, o) ∷ []) are).0))
+  piece_count (Inside (Looks ahead negative) alts) o n are =
       counts_same _ _ (n + 0) n (groups alts) (0 + groups alts) (omega arith) (omega arith)
       (counts_of _ _ _ _ (n + 0) (groups alts) (alts_numbers (rows alts (n + 0))) (alts_named (rows alts (n + 0)))
       (rows_count alts o (n + 0) (atoms_split (written alts o) ((Closing, o) ∷ []) are).0))

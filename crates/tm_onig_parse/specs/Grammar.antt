@@ -4,7 +4,7 @@ use Rattle.std.specs.Prelude.{◌≡◌, ℕ, ◌==◌, Bool, true, false, List,
 use Rattle.tm_onig_class.specs.Tree.{Tree}
 use Rattle.tm_onig_parse.specs.declared.options.Options.{Options}
 use Rattle.tm_onig_parse.specs.declared.groups.Opener.{Opener}
-use Rattle.tm_onig_parse.specs.declared.groups.Opener.TheVariants.{Captures, Groups}
+use Rattle.tm_onig_parse.specs.declared.groups.Opener.TheVariants.{Captures, Groups, Holds, Looks}
 use Rattle.tm_onig_parse.specs.Characters.{single_tree, escape_tree}
 use Rattle.tm_onig_parse.specs.Classes.{Item, begins, class_text, IsClass}
 use Rattle.tm_onig_parse.specs.Intervals.{NoBounds}
@@ -28,10 +28,16 @@ IsAtom (Plain c tree) o rest = (single_tree o c ≡ Some tree) × (c ≡ 123 →
 IsAtom (Escaped c tree) o rest = escape_tree o c ≡ Some tree
 IsAtom (Class negated is) o rest = IsClass negated is rest
 
--- `(` captures, `(?:` only groups.
+-- `(` captures, `(?:` only groups, `(?>` keeps its first success, and the others look ahead or behind
+-- for what is there or is not.
 abbrev pub opener_text : Opener → List ℕ
 opener_text Captures = 40 ∷ []
 opener_text Groups = 40 ∷ 63 ∷ 58 ∷ []
+opener_text Holds = 40 ∷ 63 ∷ 62 ∷ []
+opener_text (Looks true false) = 40 ∷ 63 ∷ 61 ∷ []
+opener_text (Looks true true) = 40 ∷ 63 ∷ 33 ∷ []
+opener_text (Looks false false) = 40 ∷ 63 ∷ 60 ∷ 61 ∷ []
+opener_text (Looks false true) = 40 ∷ 63 ∷ 60 ∷ 33 ∷ []
 
 -- The bounds of `?`, `*` and `+`.
 unfoldable pub sign_bounds : ℕ → Option (ℕ × Option ℕ)
@@ -117,6 +123,8 @@ abbrev mutual
 abbrev pub count : Opener → ℕ
 count Captures = 1
 count Groups = 0
+count Holds = 0
+count (Looks ahead negative) = 0
 
 -- How many capturing groups there are.
 abbrev mutual

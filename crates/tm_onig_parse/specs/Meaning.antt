@@ -1,10 +1,10 @@
 -- What a pattern means, and which texts are patterns.
 use Rattle.std.specs.Prelude.{◌≡◌, ℕ, ◌+◌, ◌≤◌, ◌&&◌, ◌||◌, nat_lt, Bool, true, false, List, [], ◌∷◌, ◌++◌, map, max, length, Option, if◌then◌else◌}
 use Rattle.tm_onig_class.specs.Members.{ranges_of}
-use Rattle.tm_onig_class.specs.Tree.{Tree, Empty, InSet, Cat, Alt, Group, Repeat, trees}
+use Rattle.tm_onig_class.specs.Tree.{Tree, Empty, InSet, Cat, Alt, Group, Atomic, Look, Repeat, trees}
 use Rattle.tm_onig_class.specs.Widths.{least_width}
 use Rattle.tm_onig_parse.specs.declared.groups.Opener.{Opener}
-use Rattle.tm_onig_parse.specs.declared.groups.Opener.TheVariants.{Captures, Groups}
+use Rattle.tm_onig_parse.specs.declared.groups.Opener.TheVariants.{Captures, Groups, Holds, Looks}
 use Rattle.tm_onig_parse.specs.declared.classes.Member.{Member}
 use Rattle.tm_onig_parse.specs.Characters.{no_options}
 use Rattle.tm_onig_parse.specs.Classes.{member_of, class_has}
@@ -67,6 +67,8 @@ alts_built (t ∷ u ∷ ts) = record { tree = Alt (trees (map tree_in (t ∷ u �
 abbrev pub enclosed : Opener → ℕ → Built → Built
 enclosed Captures n b = record { tree = Group n b.tree; height = b.height + 1; repeated = false; takes = b.takes }
 enclosed Groups n b = record { tree = b.tree; height = b.height + 1; repeated = false; takes = b.takes }
+enclosed Holds n b = record { tree = Atomic b.tree; height = b.height + 1; repeated = false; takes = b.takes }
+enclosed (Looks ahead negative) n b = record { tree = Look b.tree ahead negative; height = b.height + 1; repeated = false; takes = false }
 
 -- A repetition of what is repeated counts as a group around it.
 abbrev pub repeated : ℕ → Option ℕ → Bool → Built → Built

@@ -4,7 +4,7 @@ use Rattle.std.specs.Char.{is_ascii_digit}
 use Rattle.tm_onig_class.specs.Tree.{Tree}
 use Rattle.tm_onig_parse.specs.declared.options.Options.{Options}
 use Rattle.tm_onig_parse.specs.declared.groups.Opener.{Opener}
-use Rattle.tm_onig_parse.specs.declared.groups.Opener.TheVariants.{Captures, Groups}
+use Rattle.tm_onig_parse.specs.declared.groups.Opener.TheVariants.{Captures, Groups, Holds, Looks}
 use Rattle.tm_onig_parse.specs.declared.classes.Member.{Member}
 use Rattle.tm_onig_parse.specs.Characters.{no_options, single_tree, escape_tree}
 use Rattle.tm_onig_parse.specs.Classes.{begins}
@@ -42,6 +42,14 @@ after_digits (some, c ∷ t) = if c == 44 then ends_bounds (digits_at some t) el
 unfoldable pub bounds_at : List ℕ → Bool
 bounds_at t = after_digits (digits_at false t)
 
+-- what stands behind a `(?<`
+unfoldable pub behind_at : List ℕ → Found
+behind_at [] = None
+behind_at (c ∷ t) =
+    if c == 61 then Some (Open (Looks false false), t)
+    else if c == 33 then Some (Open (Looks false true), t)
+    else None
+
 -- what stands behind a `(`
 unfoldable pub open_at : List ℕ → Found
 open_at [] = Some (Open Captures, [])
@@ -49,7 +57,13 @@ open_at (c ∷ t) = if c == 63 then groups_at t else Some (Open Captures, c ∷ 
   where
     groups_at : List ℕ → Found
     groups_at [] = None
-    groups_at (c ∷ t) = if c == 58 then Some (Open Groups, t) else None
+    groups_at (c ∷ t) =
+        if c == 58 then Some (Open Groups, t)
+        else if c == 62 then Some (Open Holds, t)
+        else if c == 61 then Some (Open (Looks true false), t)
+        else if c == 33 then Some (Open (Looks true true), t)
+        else if c == 60 then behind_at t
+        else None
 
 -- a quantifier with these bounds, behind its sign
 unfoldable pub times_at : ℕ → Option ℕ → List ℕ → Found

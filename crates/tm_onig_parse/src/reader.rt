@@ -68,7 +68,7 @@ fn count(opener: Opener) -> u32
 {
     match opener {
         Opener::Captures => 1,
-        Opener::Groups => 0,
+        Opener::Groups | Opener::Holds | Opener::Looks { .. } => 0,
     }
 }
 

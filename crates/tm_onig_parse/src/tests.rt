@@ -100,6 +100,20 @@ fn word<'a>(
             waiting.push(body)?;
             format!(in alloc; "group {number}")
         }
+        Pattern::Atomic(body) => {
+            waiting.push(body)?;
+            format!(in alloc; "atomic")
+        }
+        Pattern::Look {
+            body,
+            ahead,
+            negative,
+        } => {
+            waiting.push(body)?;
+            let not = if *negative { "not-" } else { "" };
+            let side = if *ahead { "ahead" } else { "behind" };
+            format!(in alloc; "{not}{side}")
+        }
         Pattern::Repeat {
             body,
             least,
@@ -191,6 +205,18 @@ a|b|c => either 3 'a 'b 'c
 a(?:b|) => row 2 'a either 2 'b empty
 a(?:) => row 2 'a empty
 (ab|c) => group 1 either 2 row 2 'a 'b 'c
+# atomic groups and looks
+(?>a) => atomic 'a
+(?>a|b)c => row 2 atomic either 2 'a 'b 'c
+(?>(a)(?>b)) => atomic row 2 group 1 'a atomic 'b
+(?=a)a => row 2 ahead 'a 'a
+(?!a)b => row 2 not-ahead 'a 'b
+(?<=a)b => row 2 behind 'a 'b
+(?<!a)b => row 2 not-behind 'a 'b
+(?<=(a)|b)(c) => row 2 behind either 2 group 1 'a 'b group 2 'c
+a(?!) => row 2 'a not-ahead empty
+(?=a)*b => row 2 times 0.. ahead 'a 'b
+(?<!(?=a)b)c => row 2 not-behind row 2 ahead 'a 'b 'c
 # quantifiers
 a+ => times 1.. 'a
 a+? => lazily 1.. 'a
@@ -217,6 +243,10 @@ a? =>
 a| =>
 a|b* =>
 () =>
+(?=a) =>
+(?<!a)+ =>
+(?>a*) =>
+(?>) =>
 (a*)+ =>
 # bounds, and what else comes later
 a{2} =>
@@ -226,10 +256,9 @@ a{2,3} =>
 a{3,2} =>
 {2}a =>
 (?i)a =>
-(?=a)a =>
 (?<n>a) =>
 (?#c)a =>
-(?>a) =>
+(?<a) =>
 a++ =>
 ab*+ =>
 ab?+ =>
@@ -269,6 +298,13 @@ a|*b =>
 a) =>
 (?a) =>
 (? =>
+(?= =>
+(?<= =>
+(?< =>
+(?<) =>
+(?=a =>
+(?>a =>
+(?=*a)a =>
 [a =>
 [] =>
 [^] =>
@@ -291,7 +327,7 @@ fn texts_and_trees(rt: HostRuntime) -> Result<(), Fail> {
             assert_eq!(rt; found.as_str(), tree, "of {text}");
         }
     }
-    assert_eq!(rt; rows, 147);
+    assert_eq!(rt; rows, 168);
     Ok(())
 }
 
@@ -321,10 +357,14 @@ fn nested(
 }
 
 // How often, what opens, what stands inside, what closes, and whether it is a pattern.
-const LIMITS: [(usize, &str, &str, &str, bool); 13] = [
+const LIMITS: [(usize, &str, &str, &str, bool); 17] = [
     (200, "(", "a", ")", true),
     (201, "(", "a", ")", false),
     (200, "(?:", "a", ")", true),
+    (200, "(?>", "a", ")", true),
+    (201, "(?>", "a", ")", false),
+    (199, "(?=", "(a)", ")b", true),
+    (200, "(?=", "(a)", ")b", false),
     (201, "(?:", "a", ")", false),
     (199, "(", "[a]", ")", true),
     (200, "(", "[a]", ")", false),

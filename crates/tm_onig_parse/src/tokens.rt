@@ -5,7 +5,8 @@ ghost use Rattle.tm_onig_parse.specs.Characters.{single_tree, escape_tree, lette
 ghost use Rattle.tm_onig_parse.specs.Grammar.{sign_bounds};
 ghost use Rattle.tm_onig_parse.specs.Meaning.{leaf};
 ghost use Rattle.tm_onig_parse.specs.ClassReading.{class_at};
-ghost use Rattle.tm_onig_parse.specs.Reading.{token_at, open_at, times_at, escape_at, sign_or, means_class};
+ghost use Rattle.tm_onig_parse.specs.Reading.{Open, token_at, open_at, times_at, escape_at, sign_or, means_class};
+ghost use Rattle.tm_onig_parse.specs.declared.groups.Opener.TheVariants.{Looks};
 ghost use Rattle.tm_onig_parse.specs.Views.{Gives, sym_of_token, built_of};
 
 use crate::ParseFault;
@@ -72,13 +73,24 @@ fn sign(c: char) -> Option<(u32, Option<u32>)>
     }
 }
 
+fn look(ahead: bool, negative: bool) -> Token
+    ensures { sym_of_token result ≡ Open (Looks ahead negative) }
+{
+    Token::Open(Opener::Looks { ahead, negative })
+}
+
 /// What follows `(`.
-#[tactic(auto, unfolding(crate::specs::Reading::open_at))]
+#[tactic(auto, unfolding(crate::specs::Reading::open_at, crate::specs::Reading::behind_at))]
 fn open(text: &[char]) -> Result<(Token, &[char]), ParseFault>
     ensures { Gives (λ x. (sym_of_token x.0, x.1.now)) result (open_at text.now) }
 {
     match text {
         ['?', ':', rest @ ..] => Ok((Token::Open(Opener::Groups), rest)),
+        ['?', '>', rest @ ..] => Ok((Token::Open(Opener::Holds), rest)),
+        ['?', '=', rest @ ..] => Ok((look(true, false), rest)),
+        ['?', '!', rest @ ..] => Ok((look(true, true), rest)),
+        ['?', '<', '=', rest @ ..] => Ok((look(false, false), rest)),
+        ['?', '<', '!', rest @ ..] => Ok((look(false, true), rest)),
         ['?', ..] => Err(ParseFault::Unreadable),
         _ => Ok((Token::Open(Opener::Captures), text)),
     }
