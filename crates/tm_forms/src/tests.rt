@@ -247,7 +247,7 @@ const OTHER_GRAMMARS: [&str; 30] = [
     "{\"scopeName\":\"s\",\"patterns\":[{\"match\":\"^\"}]}",
     "{\"scopeName\":\"s\",\"patterns\":[{\"match\":\"a(\"}]}",
     "{\"scopeName\":\"s\",\"patterns\":[{\"match\":\"(?i)a\"}]}",
-    "{\"scopeName\":\"s\",\"patterns\":[{\"match\":\"a{2}\"}]}",
+    "{\"scopeName\":\"s\",\"patterns\":[{\"match\":\"(?<n>a)\"}]}",
     "{\"scopeName\":\"s\",\"patterns\":[{\"match\":\"(a)\\\\1\"}]}",
     "{\"scopeName\":\"s\",\"patterns\":[{\"match\":1}]}",
     "{\"scopeName\":\"s\",\"patterns\":[{\"match\":\"a\",\"name\":\"\"}]}",

@@ -7,7 +7,7 @@ use Rattle.tm_onig_class.specs.Tree.{Tree}
 use Rattle.tm_onig_parse.specs.declared.groups.Opener.{Opener}
 use Rattle.tm_onig_parse.specs.declared.groups.Opener.TheVariants.{Groups}
 use Rattle.tm_onig_parse.specs.Characters.{no_options}
-use Rattle.tm_onig_parse.specs.Grammar.{Tok, Toks, Single, Opening, Closing, Bar, Times, Alts, First, Also, Row, Nothing, Then, Alone, Inside, Repeated, written, written_row, written_piece, count, groups, groups_row}
+use Rattle.tm_onig_parse.specs.Grammar.{Tok, Toks, Single, Opening, Closing, Bar, Times, Alts, First, Also, Row, Nothing, Then, Alone, Inside, Repeated, Amount, Mark, least_of, greatest_of, manner_of, written, written_row, written_piece, count, groups, groups_row}
 use Rattle.tm_onig_parse.specs.Meaning.{Built, enclosed, rows, parts, built, meaning}
 use Rattle.tm_onig_parse.specs.ClassReading.{◌>>=◌}
 use Rattle.tm_onig_parse.specs.Reading.{Close, Or, Repeats, Level, State, added, level_built, close_in, within, more_times, change_last, step, advancing, finish}
@@ -147,10 +147,10 @@ bar_back outer (Some alts) row next e = record {
 }
 
 -- The last piece is repeated.
-record Repeats_last (row : Row) (sign least : ℕ) (greatest : Option ℕ) (greedy : Bool) (r : List Built) (n : ℕ) : Type 0 where
+record Repeats_last (row : Row) (amount : Amount) (mark : Mark) (r : List Built) (n : ℕ) : Type 0 where
   to : Row
   is : r ≡ parts to n
-  whole : written_row to no_options ≡ written_row row no_options ++ (Times sign least greatest greedy, no_options) ∷ []
+  whole : written_row to no_options ≡ written_row row no_options ++ (Times amount mark, no_options) ∷ []
   count : groups_row to ≡ groups_row row
 
 -- one list in both
@@ -166,14 +166,14 @@ within_last b ts r e = by_test (nat_le b.height 200) e
     by_test false e = absurd cc
 
 -- the last piece with a quantifier
-repeat_back : (row : Row) (sign least : ℕ) (greatest : Option ℕ) (greedy : Bool) (r : List Built) (n : ℕ) →
-    change_last (more_times least greatest greedy) (parts row n) ≡ Some r → Repeats_last row sign least greatest greedy r n
+repeat_back : (row : Row) (amount : Amount) (mark : Mark) (r : List Built) (n : ℕ) →
+    change_last (more_times (least_of amount) (greatest_of amount) (manner_of amount mark)) (parts row n) ≡ Some r → Repeats_last row amount mark r n
 unfolding change_last
-repeat_back Nothing sign least greatest greedy r n e = absurd cc
-repeat_back (Then row piece) sign least greatest greedy r n e = record {
-  to = Then row (Repeated piece sign least greatest greedy);
+repeat_back Nothing amount mark r n e = absurd cc
+repeat_back (Then row piece) amount mark r n e = record {
+  to = Then row (Repeated piece amount mark);
   is = within_last _ (parts row n) r (rw change_last-snoc at e);
-  whole = sym (append_assoc (written_row row no_options) (written_piece piece no_options) ((Times sign least greatest greedy, no_options) ∷ []));
+  whole = sym (append_assoc (written_row row no_options) (written_piece piece no_options) ((Times amount mark, no_options) ∷ []));
   count = refl;
 }
 
@@ -194,13 +194,13 @@ times_made outer before row to k r next is made toks count = record {
 }
 
 -- behind a quantifier
-times_back : (outer : List (Part × Opener)) (before : Option Alts) (row : Row) (sign least : ℕ) (greatest : Option ℕ) (greedy : Bool) (next : State) →
-    step (Repeats least greatest greedy) (state_of (stack outer before row)) ≡ Some next → Went (stack outer before row) (Times sign least greatest greedy) next
+times_back : (outer : List (Part × Opener)) (before : Option Alts) (row : Row) (amount : Amount) (mark : Mark) (next : State) →
+    step (Repeats (least_of amount) (greatest_of amount) (manner_of amount mark)) (state_of (stack outer before row)) ≡ Some next → Went (stack outer before row) (Times amount mark) next
 unfolding step
-times_back outer before row sign least greatest greedy next e =
+times_back outer before row amount mark next e =
     let m = map_ok _ _ next e in
-    let r = repeat_back row sign least greatest greedy m.0 (base before (outer_opened outer)) m.1 in
-    times_made outer before row r.to (Times sign least greatest greedy) m.0 next m.2 r.is r.whole r.count
+    let r = repeat_back row amount mark m.0 (base before (outer_opened outer)) m.1 in
+    times_made outer before row r.to (Times amount mark) m.0 next m.2 r.is r.whole r.count
 
 -- Each step of the reading is one of what is written.
 pub step_back : (k : Tok) (s : Stack) (next : State) → step (sym_of k) (state_of s) ≡ Some next → Went s k next
@@ -223,7 +223,7 @@ step_back (Opening k) s next e = record {
         ∙ same_opened _ _ _ _ (omega arith)
 step_back Closing s next e = close_back s.outer s.top.before s.top.row next e
 step_back Bar s next e = bar_back s.outer s.top.before s.top.row next e
-step_back (Times sign least greatest greedy) s next e = times_back s.outer s.top.before s.top.row sign least greatest greedy next e
+step_back (Times amount mark) s next e = times_back s.outer s.top.before s.top.row amount mark next e
 
 -- What was written ends as a whole.
 pub record Ends (s : Stack) (ks : Toks) (tree : Tree) : Type 0 where

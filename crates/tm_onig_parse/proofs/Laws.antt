@@ -53,7 +53,7 @@ step_few (Opening k) s next few e =
     omega (arith, leb-true _ _ ((cond_some _ _ _ e).0))
 step_few Closing s next few e = omega (arith, close_few s.outer s.top s.opened next e)
 step_few Bar s next few e = let at = ap (λ (s : State). s.opened) (same_state _ _ e) in omega arith
-step_few (Times sign least greatest greedy) s next few e = omega (arith, map_opened _ _ s.opened (λ r. refl) next e)
+step_few (Times amount mark) s next few e = omega (arith, map_opened _ _ s.opened (λ r. refl) next e)
 
 -- one turn
 pub read_one : (n : ℕ) (s : State) (t : List ℕ) → 0 < length t → read (suc n) s t ≡ (token_at s.top.options t >>= λ y. step y.0 s >>= λ next. read n next y.1)

@@ -5,9 +5,11 @@ use Rattle.tm_onig_class.specs.Tree.{Tree}
 use Rattle.tm_onig_parse.specs.declared.options.Options.{Options}
 use Rattle.tm_onig_parse.specs.declared.groups.Opener.{Opener}
 use Rattle.tm_onig_parse.specs.declared.groups.Opener.TheVariants.{Captures, Groups, Holds, Looks}
+use Rattle.tm_onig_parse.specs.declared.quantifiers.Manner.{Manner}
+use Rattle.tm_onig_parse.specs.declared.quantifiers.Manner.TheVariants.{Greedy, Lazy, Possessive, Optional, Again}
 use Rattle.tm_onig_parse.specs.Characters.{single_tree, escape_tree}
 use Rattle.tm_onig_parse.specs.Classes.{Item, begins, class_text, IsClass}
-use Rattle.tm_onig_parse.specs.Intervals.{NoBounds}
+use Rattle.tm_onig_parse.specs.Intervals.{Bounds, Exactly, Between, bounds_text, IsBounds, NoBounds, least_in, greatest_in, AreLimited}
 
 -- What matches by itself: a character or a sign with the tree that it means, the same behind a
 -- backslash, or a class, negated or not.
@@ -47,14 +49,75 @@ sign_bounds c =
     else if c == 43 then Some (1, None)
     else None
 
--- The smallest things that are written. The last is a quantifier: its sign, its bounds, and whether
--- it is greedy.
+-- How often: a sign with its bounds, or bounds between braces.
+pub data Amount : Type 0 where
+  Sign : ℕ → ℕ → Option ℕ → Amount
+  Braces : Bounds → Amount
+
+-- How it is spelled.
+abbrev pub amount_text : Amount → List ℕ
+amount_text (Sign sign least greatest) = sign ∷ []
+amount_text (Braces b) = 123 ∷ bounds_text b
+
+-- It is one.
+abbrev pub IsAmount : Amount → Type 0
+IsAmount (Sign sign least greatest) = sign_bounds sign ≡ Some (least, greatest)
+IsAmount (Braces b) = IsBounds b × AreLimited b
+
+-- The least number of times.
+abbrev pub least_of : Amount → ℕ
+least_of (Sign sign least greatest) = least
+least_of (Braces b) = least_in b
+
+-- The greatest, if there is one.
+abbrev pub greatest_of : Amount → Option ℕ
+greatest_of (Sign sign least greatest) = greatest
+greatest_of (Braces b) = greatest_in b
+
+-- What stands behind an amount: nothing, a `?` or a `+`.
+pub data Mark : Type 0 where
+  Bare : Mark
+  Question : Mark
+  Plus : Mark
+
+-- How it is spelled.
+abbrev pub mark_text : Mark → List ℕ
+mark_text Bare = []
+mark_text Question = 63 ∷ []
+mark_text Plus = 43 ∷ []
+
+-- A `?` or a `+` behind an amount is its mark.
+abbrev pub EndsMark : Mark → List ℕ → Type 0
+EndsMark Bare rest = (begins 63 rest ≡ false) × (begins 43 rest ≡ false)
+EndsMark mark rest = Unit {0}
+
+-- What a `?` makes of an amount: of one number it makes no lazy one, but what may be left out.
+abbrev pub with_question : Amount → Manner
+with_question (Braces (Exactly n)) = Optional
+with_question amount = Lazy
+
+-- What a `+` makes of it.
+abbrev pub with_plus : Amount → Manner
+with_plus (Sign sign least greatest) = Possessive
+with_plus (Braces b) = Again
+
+-- What a mark makes of it, where a `?` and a `+` make these.
+abbrev pub marked : Manner → Manner → Mark → Manner
+marked question plus Bare = Greedy
+marked question plus Question = question
+marked question plus Plus = plus
+
+-- How an amount with its mark repeats.
+abbrev pub manner_of : Amount → Mark → Manner
+manner_of amount mark = marked (with_question amount) (with_plus amount) mark
+
+-- The smallest things that are written. The last is a quantifier.
 pub data Tok : Type 0 where
   Single : Atom → Tok
   Opening : Opener → Tok
   Closing : Tok
   Bar : Tok
-  Times : ℕ → ℕ → Option ℕ → Bool → Tok
+  Times : Amount → Mark → Tok
 
 -- How it is spelled.
 abbrev pub text_of : Tok → List ℕ
@@ -62,16 +125,13 @@ text_of (Single a) = atom_text a
 text_of (Opening k) = opener_text k
 text_of Closing = 41 ∷ []
 text_of Bar = 124 ∷ []
-text_of (Times sign least greatest true) = sign ∷ []
-text_of (Times sign least greatest false) = sign ∷ 63 ∷ []
+text_of (Times amount mark) = amount_text amount ++ mark_text mark
 
--- It is one that there is, before what follows: a `?` behind `(` would begin another opening, a `?`
--- behind a greedy quantifier would make it lazy, and a `+` possessive.
+-- It is one that there is, before what follows: a `?` behind `(` would begin another opening.
 abbrev pub IsTok : Tok → Options → List ℕ → Type 0
 IsTok (Single a) o rest = IsAtom a o rest
 IsTok (Opening Captures) o rest = begins 63 rest ≡ false
-IsTok (Times sign least greatest true) o rest = (sign_bounds sign ≡ Some (least, greatest)) × (begins 63 rest ≡ false) × (begins 43 rest ≡ false)
-IsTok (Times sign least greatest false) o rest = sign_bounds sign ≡ Some (least, greatest)
+IsTok (Times amount mark) o rest = IsAmount amount × EndsMark mark rest
 IsTok _ o rest = Unit {0}
 
 -- Things in a row, each with the options that hold where it begins.
@@ -102,7 +162,7 @@ mutual
   pub data Piece : Type 0 where
     Alone : Atom → Piece
     Inside : Opener → Alts → Piece
-    Repeated : Piece → ℕ → ℕ → Option ℕ → Bool → Piece
+    Repeated : Piece → Amount → Mark → Piece
 
 -- What they are written as.
 abbrev mutual
@@ -117,7 +177,7 @@ abbrev mutual
   pub written_piece : Piece → Options → Toks
   written_piece (Alone a) o = (Single a, o) ∷ []
   written_piece (Inside k alts) o = (Opening k, o) ∷ (written alts o ++ (Closing, o) ∷ [])
-  written_piece (Repeated piece sign least greatest greedy) o = written_piece piece o ++ (Times sign least greatest greedy, o) ∷ []
+  written_piece (Repeated piece amount mark) o = written_piece piece o ++ (Times amount mark, o) ∷ []
 
 -- How many capturing groups an opening begins.
 abbrev pub count : Opener → ℕ
@@ -139,4 +199,4 @@ abbrev mutual
   pub groups_piece : Piece → ℕ
   groups_piece (Alone a) = 0
   groups_piece (Inside k alts) = count k + groups alts
-  groups_piece (Repeated piece sign least greatest greedy) = groups_piece piece
+  groups_piece (Repeated piece amount mark) = groups_piece piece

@@ -36,7 +36,7 @@ sym_of_token (T.Means part) = Means (built_of part)
 sym_of_token (T.Open opener) = Open opener
 sym_of_token T.Close = Close
 sym_of_token T.Or = Or
-sym_of_token (T.Repeats least greatest greedy) = Repeats least greatest greedy
+sym_of_token (T.Repeats least greatest manner) = Repeats least greatest manner
 
 -- what a frame stands for
 abbrev pub level_of_frame : Frame → Level

@@ -164,7 +164,7 @@ fn closes(first: bool, text: &[char]) -> bool
     }
 }
 
-fn tail(text: &[char]) -> &[char]
+pub fn tail(text: &[char]) -> &[char]
     ensures { result.now ≡ rest_of text.now }
 {
     match text {

@@ -20,6 +20,7 @@ mod intervals;
 mod options;
 mod part;
 mod parts;
+mod quantifiers;
 mod reader;
 mod tokens;
 

@@ -2,8 +2,8 @@
 ghost use Rattle.std.specs.Prelude.{◌≡◌, ◌≤◌, ◌+◌, false, nat_lt, if◌then◌else◌, Some, ◌++◌, ◌∷◌, [], map};
 ghost use Rattle.tm_onig_class.specs.Tree.{tree_of};
 ghost use Rattle.tm_onig_class.specs.Widths.{least_width};
-ghost use Rattle.tm_onig_parse.specs.Meaning.{leaf, row_built, alts_built, enclosed, highest, any_takes, all_take, tree_in};
-ghost use Rattle.tm_onig_parse.specs.Reading.{within, more_times};
+ghost use Rattle.tm_onig_parse.specs.Meaning.{leaf, row_built, alts_built, enclosed, repeated, highest, any_takes, all_take, tree_in};
+ghost use Rattle.tm_onig_parse.specs.Reading.{within};
 ghost use Rattle.tm_onig_parse.specs.Views.{Gives, Steps, built_of};
 
 use crate::ParseFault;
@@ -218,7 +218,7 @@ pub fn repeat(
     greatest: Option<u32>,
     greedy: bool,
 ) -> Result<Part, ParseFault>
-    ensures { Gives built_of result (more_times least greatest greedy (built_of part)) }
+    ensures { Gives built_of result (within (repeated least greatest greedy (built_of part))) }
 {
     let Part {
         pattern,

@@ -229,10 +229,44 @@ ab** => row 2 'a times 0.. times 0.. 'b
 ab??? => row 2 'a times 0..1 lazily 0..1 'b
 ^*a => row 2 times 0.. LineStart 'a
 [ab]+ => times 1.. set[ab]
+# bounds
+a{2} => times 2..2 'a
+a{2,} => times 2.. 'a
+ba{,2} => row 2 'b times 0..2 'a
+a{2,3} => times 2..3 'a
+a{02} => times 2..2 'a
+a{100000} => times 100000..100000 'a
+a{1,100000} => times 1..100000 'a
+a|b{12} => either 2 'a times 12..12 'b
+^{2}a => row 2 times 2..2 LineStart 'a
+(?=a){2}b => row 2 times 2..2 ahead 'a 'b
+ba{2}? => row 2 'b times 0..1 times 2..2 'a
+a{2,2}? => lazily 2..2 'a
+a{2,3}? => lazily 2..3 'a
+a{2,}? => lazily 2.. 'a
+ba{,3}? => row 2 'b lazily 0..3 'a
+a{2}+ => times 1.. times 2..2 'a
+a{2,3}+ => times 1.. times 2..3 'a
+a{2}++ => times 1.. times 1.. times 2..2 'a
+ba{2}?? => row 2 'b times 0..1 times 0..1 times 2..2 'a
+a{2}{3} => times 3..3 times 2..2 'a
+a{2,3}?+ => times 1.. lazily 2..3 'a
+ba{2}*? => row 2 'b lazily 0.. times 2..2 'a
+# possessive marks
+a++ => atomic times 1.. 'a
+ba*+ => row 2 'b atomic times 0.. 'a
+ba?+ => row 2 'b atomic times 0..1 'a
+a+++ => times 1.. atomic times 1.. 'a
+a++++ => atomic times 1.. atomic times 1.. 'a
+a+?+ => times 1.. lazily 1.. 'a
+ba++? => row 2 'b times 0..1 atomic times 1.. 'a
 # braces that begin no bounds
 a{ => row 2 'a '{
 a{x} => row 4 'a '{ 'x '}
 a{,} => row 4 'a '{ ', '}
+a{2 => row 3 'a '{ '2
+a{2,3 => row 5 'a '{ '2 ', '3
+a{-1} => row 5 'a '{ '- '1 '}
 { 1} => row 4 '{ '  '1 '}
 # no match advances by less than one character
  =>
@@ -248,20 +282,14 @@ a|b* =>
 (?>a*) =>
 (?>) =>
 (a*)+ =>
-# bounds, and what else comes later
-a{2} =>
-a{2,} =>
+a{0} =>
 a{,2} =>
-a{2,3} =>
-a{3,2} =>
-{2}a =>
+a{2}? =>
+# what comes later
 (?i)a =>
 (?<n>a) =>
 (?#c)a =>
 (?<a) =>
-a++ =>
-ab*+ =>
-ab?+ =>
 \A =>
 \z =>
 \k<a>a =>
@@ -291,6 +319,14 @@ ab?+ =>
 [\ca] =>
 # never patterns
 *a =>
+{2}a =>
+a|{2} =>
+({2}) =>
+a{3,2} =>
+a{100001} =>
+a{1,100001} =>
+a{,100001}b =>
+a{99999999999999999999} =>
 + =>
 a|*b =>
 (*a) =>
@@ -327,7 +363,7 @@ fn texts_and_trees(rt: HostRuntime) -> Result<(), Fail> {
             assert_eq!(rt; found.as_str(), tree, "of {text}");
         }
     }
-    assert_eq!(rt; rows, 168);
+    assert_eq!(rt; rows, 202);
     Ok(())
 }
 
@@ -357,7 +393,7 @@ fn nested(
 }
 
 // How often, what opens, what stands inside, what closes, and whether it is a pattern.
-const LIMITS: [(usize, &str, &str, &str, bool); 17] = [
+const LIMITS: [(usize, &str, &str, &str, bool); 21] = [
     (200, "(", "a", ")", true),
     (201, "(", "a", ")", false),
     (200, "(?:", "a", ")", true),
@@ -370,6 +406,10 @@ const LIMITS: [(usize, &str, &str, &str, bool); 17] = [
     (200, "(", "[a]", ")", false),
     (200, "", "a+?", "+?", true),
     (201, "", "a+?", "+?", false),
+    (100, "", "a+", "{1}+", true),
+    (101, "", "a+", "{1}+", false),
+    (201, "", "a", "++", true),
+    (202, "", "a", "++", false),
     (1_000, "(a)", "a", "", true),
     (1_001, "(a)", "a", "", false),
     (65_535, "", "a", "a", true),

@@ -5,7 +5,7 @@ ghost use Rattle.tm_onig_parse.specs.Characters.{single_tree, escape_tree, lette
 ghost use Rattle.tm_onig_parse.specs.Grammar.{sign_bounds};
 ghost use Rattle.tm_onig_parse.specs.Meaning.{leaf};
 ghost use Rattle.tm_onig_parse.specs.ClassReading.{class_at};
-ghost use Rattle.tm_onig_parse.specs.Reading.{Open, token_at, open_at, times_at, escape_at, sign_or, means_class};
+ghost use Rattle.tm_onig_parse.specs.Reading.{Open, token_at, open_at, times_at, lazily_exact, interval_at, braces_at, escape_at, sign_or, means_class};
 ghost use Rattle.tm_onig_parse.specs.declared.groups.Opener.TheVariants.{Looks};
 ghost use Rattle.tm_onig_parse.specs.Views.{Gives, sym_of_token, built_of};
 
@@ -13,10 +13,11 @@ use crate::ParseFault;
 use crate::class_sets::{class_part, letter_set};
 use crate::classes::{class, escaped, letter};
 use crate::groups::Opener;
-use crate::intervals::bounds;
+use crate::intervals::{bounds, interval};
 use crate::options::Options;
 use crate::part::Part;
 use crate::parts::leaf;
+use crate::quantifiers::Manner;
 use std::alloc::Global;
 use tm_onig_class::listed::Listed;
 use tm_onig_class::patterns::{Pattern, Position};
@@ -31,7 +32,7 @@ pub enum Token {
     Repeats {
         least: u32,
         greatest: Option<u32>,
-        greedy: bool,
+        manner: Manner,
     },
 }
 
@@ -96,29 +97,56 @@ fn open(text: &[char]) -> Result<(Token, &[char]), ParseFault>
     }
 }
 
-/// What follows a sign with these bounds.
+/// What follows a sign or a brace with these bounds: a `?` or a `+` sets the manner.
 #[tactic(auto, unfolding(crate::specs::Reading::times_at))]
-fn times(least: u32, greatest: Option<u32>, text: &[char]) -> Result<(Token, &[char]), ParseFault>
-    ensures { Gives (λ x. (sym_of_token x.0, x.1.now)) result (times_at least greatest text.now) }
+fn times(
+    least: u32,
+    greatest: Option<u32>,
+    question: Manner,
+    plus: Manner,
+    text: &[char],
+) -> Result<(Token, &[char]), ParseFault>
+    ensures { Gives (λ x. (sym_of_token x.0, x.1.now)) result (times_at least greatest question plus text.now) }
 {
-    match text {
-        ['?', rest @ ..] => Ok((
-            Token::Repeats {
-                least,
-                greatest,
-                greedy: false,
-            },
+    let (manner, rest) = match text {
+        ['?', rest @ ..] => (question, rest),
+        ['+', rest @ ..] => (plus, rest),
+        _ => (Manner::Greedy, text),
+    };
+    Ok((
+        Token::Repeats {
+            least,
+            greatest,
+            manner,
+        },
+        rest,
+    ))
+}
+
+/// What a `?` makes of bounds between braces.
+fn lazily(exact: bool) -> Manner
+    ensures { result ≡ lazily_exact exact }
+{
+    if exact {
+        Manner::Optional
+    } else {
+        Manner::Lazy
+    }
+}
+
+/// What follows a `{` that begins bounds.
+fn braces(text: &[char]) -> Result<(Token, &[char]), ParseFault>
+    ensures { Gives (λ x. (sym_of_token x.0, x.1.now)) result (braces_at (interval_at text.now)) }
+{
+    match interval(text) {
+        Some((found, rest)) => times(
+            found.least,
+            found.greatest,
+            lazily(found.exact),
+            Manner::Again,
             rest,
-        )),
-        ['+', ..] => Err(ParseFault::Unreadable),
-        _ => Ok((
-            Token::Repeats {
-                least,
-                greatest,
-                greedy: true,
-            },
-            text,
-        )),
+        ),
+        None => Err(ParseFault::Unreadable),
     }
 }
 
@@ -208,16 +236,15 @@ fn brackets(alloc: Global, text: &[char]) -> Result<(Token, &[char]), ParseFault
     }
 }
 
-/// A quantifier's sign, or a character that stands alone, and what follows it. A `{` that begins
-/// bounds is neither.
+/// A quantifier, or a character that stands alone, and what follows it.
 fn sign_or(options: Options, c: char, text: &[char]) -> Result<(Token, &[char]), ParseFault>
     ensures { Gives (λ x. (sym_of_token x.0, x.1.now)) result (sign_or options (sign_bounds c) c text.now) }
 {
     match sign(c) {
-        Some((least, greatest)) => times(least, greatest, text),
+        Some((least, greatest)) => times(least, greatest, Manner::Lazy, Manner::Possessive, text),
         None => {
             if c == '{' && bounds(text) {
-                return Err(ParseFault::Unreadable);
+                return braces(text);
             }
             match single(options, c) {
                 Some(part) => Ok((Token::Means(part), text)),
