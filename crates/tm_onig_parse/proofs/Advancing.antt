@@ -9,7 +9,7 @@ use Rattle.tm_onig_parse.specs.declared.groups.Opener.{Opener}
 use Rattle.tm_onig_parse.specs.declared.groups.Opener.TheVariants.{Captures, Groups, Holds, Looks}
 use Rattle.tm_onig_parse.specs.declared.quantifiers.Manner.{Manner}
 use Rattle.tm_onig_parse.specs.declared.quantifiers.Manner.TheVariants.{Greedy, Lazy, Possessive, Optional, Again}
-use Rattle.tm_onig_parse.specs.Grammar.{Atom, Plain, Escaped, Class, Alts, First, Also, Row, Nothing, Then, Piece, Alone, Inside, Repeated, least_of, greatest_of, manner_of, count, groups, groups_row}
+use Rattle.tm_onig_parse.specs.Grammar.{Atom, Plain, Escaped, Class, Alts, First, Also, Row, Nothing, Then, Noted, Piece, Alone, Inside, Repeated, Behind, least_of, greatest_of, manner_of, count, groups, groups_row}
 use Rattle.tm_onig_parse.specs.Meaning.{Built, tree_in, any_takes, all_take, row_built, alts_built, enclosed, repeated, around, quantified, is_greedy, atom_built, rows, parts, piece_built, built, meaning}
 
 -- its mark says that the tree is wide
@@ -111,10 +111,12 @@ mutual
 
   parts_tied : (r : Row) (n : ℕ) → AreTied (parts r n)
   parts_tied Nothing n = tt
+  parts_tied (Noted row text) n = parts_tied row n
   parts_tied (Then row piece) n = tied_append (parts row n) _ (parts_tied row n) (piece_tied piece (n + groups_row row), tt)
 
   piece_tied : (p : Piece) (n : ℕ) → Tied (piece_built p n)
   piece_tied (Alone a) n = atom_tied a
+  piece_tied (Behind piece text) n = piece_tied piece n
   piece_tied (Inside k alts) n = enclosed_tied k (n + count k) (alts_built (rows alts (n + count k))) (alts_tied (rows alts (n + count k)) (rows_tied alts (n + count k)))
   piece_tied (Repeated piece amount mark) n =
       let manner = manner_of amount mark in

@@ -1,6 +1,7 @@
 -- One thing is read exactly as it is spelled.
-use Rattle.std.proofs.Common.{◌≡◌, ℕ, ◌<◌, Bool, true, false, List, [], ◌∷◌, ◌++◌, ◌&&◌, map, length, Option, Some, None, refl, sym, ap, ◌∙◌, subst, inl, inr, arith, length-append, append_assoc}
+use Rattle.std.proofs.Common.{◌≡◌, ℕ, ◌<◌, Bool, true, false, List, [], ◌∷◌, ◌++◌, ◌&&◌, ◌||◌, map, length, Option, Some, None, refl, sym, ap, ◌∙◌, subst, inl, inr, arith, length-append, append_assoc}
 use Rattle.std.specs.Prelude.{◌==◌}
+use Rattle.std.specs.List.{list_any}
 use Rattle.std.proofs.lemmas.Bool.{cases_Bool, eqb-true, eq-eqb, and_parts}
 use Rattle.tm_onig_class.specs.Tree.{Tree}
 use Rattle.tm_onig_parse.specs.declared.options.Options.{Options}
@@ -10,10 +11,10 @@ use Rattle.tm_onig_parse.specs.declared.quantifiers.Manner.TheVariants.{Lazy, Po
 use Rattle.tm_onig_parse.specs.Characters.{single_tree, escape_tree, is_special}
 use Rattle.tm_onig_parse.specs.Classes.{begins, Item, item_text, member_of, items_text, AreItems, class_text, IsClass}
 use Rattle.tm_onig_parse.specs.Intervals.{Bounds, bounds_text, IsBounds, NoBounds, least_in, greatest_in}
-use Rattle.tm_onig_parse.specs.Grammar.{Atom, Plain, Escaped, Class, atom_text, IsAtom, sign_bounds, Amount, Sign, Braces, amount_text, IsAmount, least_of, greatest_of, Mark, mark_text, EndsMark, with_question, with_plus, manner_of, Tok, Single, Opening, Closing, Bar, Times, text_of, IsTok}
+use Rattle.tm_onig_parse.specs.Grammar.{Atom, Plain, Escaped, Class, atom_text, IsAtom, sign_bounds, Amount, Sign, Braces, amount_text, IsAmount, least_of, greatest_of, Mark, mark_text, EndsMark, with_question, with_plus, manner_of, Tok, Single, Opening, Closing, Bar, Times, Comment, text_of, IsTok}
 use Rattle.tm_onig_parse.specs.Meaning.{atom_built, class_built}
 use Rattle.tm_onig_parse.specs.ClassReading.{items_on, signed, class_at}
-use Rattle.tm_onig_parse.specs.Reading.{Sym, Means, Open, Close, Or, Repeats, Found, bounds_at, open_at, behind_at, times_at, interval_at, braces_at, means, escape_at, means_class, sign_or, token_at}
+use Rattle.tm_onig_parse.specs.Reading.{Sym, Means, Open, Close, Or, Repeats, Skips, Found, bounds_at, open_at, behind_at, comment_at, times_at, interval_at, braces_at, means, escape_at, means_class, sign_or, token_at}
 use Rattle.tm_onig_parse.proofs.ClassExact.{chosen, bind_ok, differs, items_found, items_again}
 use Rattle.tm_onig_parse.proofs.BoundsExact.{bounds_again, bounds_found, no_bounds, lacks_bounds}
 use Rattle.tm_onig_parse.proofs.BoundsValues.{Interval, interval_again, interval_found}
@@ -26,6 +27,7 @@ sym_of (Opening k) = Open k
 sym_of Closing = Close
 sym_of Bar = Or
 sym_of (Times amount mark) = Repeats (least_of amount) (greatest_of amount) (manner_of amount mark)
+sym_of (Comment text) = Skips
 
 -- The character begins nothing of its own.
 record Ordinary (c : ℕ) : Type 0 where
@@ -148,6 +150,16 @@ times_again (Braces b) mark o rest is ends =
     ap (λ u. token_at o (123 ∷ u)) (append_assoc (bounds_text b) (mark_text mark) rest)
     ∙ (rw (bounds_again b more is.0, interval_again b more is.0 is.1, question_same b) (mark_again (least_in b) (greatest_in b) (with_question (Braces b)) Again mark rest ends))
 
+-- a comment that is written is read
+comment_again : (text rest : List ℕ) → list_any (λ c. c == 41) text ≡ false → comment_at (text ++ 41 ∷ rest) ≡ Some (Skips, rest)
+unfolding comment_at
+comment_again [] rest none = refl
+comment_again (c ∷ text) rest none = let parts = or_parts (c == 41) (list_any (λ c. c == 41) text) none in rw parts.0 (comment_again text rest parts.1)
+  where
+    or_parts : (a b : Bool) → (a || b) ≡ false → (a ≡ false) × (b ≡ false)
+    or_parts true b e = absurd cc
+    or_parts false b e = (refl, e)
+
 -- A thing that is written is read.
 pub token_again : (k : Tok) (o : Options) (rest : List ℕ) → IsTok k o rest → token_at o (text_of k ++ rest) ≡ Some (sym_of k, rest)
 unfolding token_at open_at behind_at times_at
@@ -162,6 +174,7 @@ token_again (Opening (Looks false true)) o rest is = refl
 token_again Closing o rest is = refl
 token_again Bar o rest is = refl
 token_again (Times amount mark) o rest is = times_again amount mark o rest is.0 is.1
+token_again (Comment text) o rest is = ap comment_at (append_assoc text (41 ∷ []) rest) ∙ comment_again text rest is
 
 -- What was read is spelled so.
 pub record Reads (o : Options) (t : List ℕ) (y : Sym) (rest : List ℕ) : Type 0 where
@@ -192,6 +205,38 @@ behind_found o (c ∷ t) y rest e = elim (chosen (c == 61) _ _ _ e) [
   ]
 ]
 
+-- The comment that was read.
+record Commented (t : List ℕ) (y : Sym) (rest : List ℕ) : Type 0 where
+  text : List ℕ
+  whole : t ≡ text ++ 41 ∷ rest
+  none : list_any (λ c. c == 41) text ≡ false
+  means : y ≡ Skips
+
+-- the end of a comment, where both pairs are one
+comment_by : (t : List ℕ) (y : Sym) (rest : List ℕ) → ◌≡◌ {A = Found} (Some (Skips, t)) (Some (y, rest)) → Commented (41 ∷ t) y rest
+comment_by t y rest e =
+    let p = same_pair (Skips, t) (y, rest) e in
+    subst (λ (p : Sym × List ℕ). Commented (41 ∷ t) p.0 p.1) p (record { text = []; whole = refl; none = refl; means = refl })
+
+-- one character more
+comment_more : (c : ℕ) (t : List ℕ) (y : Sym) (rest : List ℕ) → (c == 41) ≡ false → Commented t y rest → Commented (c ∷ t) y rest
+comment_more c t y rest other m = record { text = c ∷ m.text; whole = ap (λ u. c ∷ u) m.whole; none = rw other m.none; means = m.means }
+
+-- a comment that is read is written
+comment_found : (t : List ℕ) (y : Sym) (rest : List ℕ) → comment_at t ≡ Some (y, rest) → Commented t y rest
+unfolding comment_at
+comment_found [] y rest e = absurd cc
+comment_found (c ∷ t) y rest e = elim (chosen (c == 41) _ _ _ e) [
+  | inl h ↦ rw (eqb-true c 41 h.0) (comment_by t y rest h.1)
+  | inr h ↦ comment_more c t y rest h.0 (comment_found t y rest h.1)
+]
+
+-- a `(?#` that is read
+note_found : (o : Options) (t : List ℕ) (y : Sym) (rest : List ℕ) → comment_at t ≡ Some (y, rest) → Reads o (40 ∷ 63 ∷ 35 ∷ t) y rest
+note_found o t y rest e =
+    let m = comment_found t y rest e in
+    record { tok = Comment m.text; whole = ap (λ u. 40 ∷ 63 ∷ 35 ∷ u) (m.whole ∙ sym (append_assoc m.text (41 ∷ []) rest)); is = m.none; means = m.means }
+
 -- a `(?` that is read
 groups_found : (o : Options) (t : List ℕ) (y : Sym) (rest : List ℕ) → open_at (63 ∷ t) ≡ Some (y, rest) → Reads o (40 ∷ 63 ∷ t) y rest
 unfolding open_at
@@ -206,7 +251,10 @@ groups_found o (c ∷ t) y rest e = elim (chosen (c == 58) _ _ _ e) [
         | inl d ↦ rw (eqb-true c 33 d.0) (reads_by (Opening (Looks true true)) o t y rest tt d.1)
         | inr d ↦ elim (chosen (c == 60) _ _ _ d.1) [
           | inl b ↦ rw (eqb-true c 60 b.0) (behind_found o t y rest b.1)
-          | inr b ↦ absurd cc
+          | inr b ↦ elim (chosen (c == 35) _ _ _ b.1) [
+            | inl a ↦ rw (eqb-true c 35 a.0) (note_found o t y rest a.1)
+            | inr a ↦ absurd cc
+          ]
         ]
       ]
     ]
@@ -359,6 +407,7 @@ text_length Closing = omega arith
 text_length Bar = omega arith
 text_length (Times (Sign sign least greatest) mark) = omega arith
 text_length (Times (Braces b) mark) = omega arith
+text_length (Comment text) = omega arith
 
 -- each thing takes a character
 pub token_shorter : (o : Options) (t : List ℕ) (y : Sym) (rest : List ℕ) → token_at o t ≡ Some (y, rest) → length rest < length t

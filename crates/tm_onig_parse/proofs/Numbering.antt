@@ -12,7 +12,7 @@ use Rattle.tm_onig_parse.specs.declared.groups.Opener.TheVariants.{Captures, Gro
 use Rattle.tm_onig_parse.specs.declared.quantifiers.Manner.{Manner}
 use Rattle.tm_onig_parse.specs.declared.quantifiers.Manner.TheVariants.{Greedy, Lazy, Possessive, Optional, Again}
 use Rattle.tm_onig_parse.specs.Characters.{no_options, is_special, single_tree, set_letter, escaped_char, set_or_char, place_letter, place_or_other, escape_tree}
-use Rattle.tm_onig_parse.specs.Grammar.{Atom, Plain, Escaped, Class, IsAtom, Toks, Single, Opening, Closing, Bar, Times, spelling, AreToks, Alts, First, Also, Row, Nothing, Then, Piece, Alone, Inside, Repeated, least_of, greatest_of, manner_of, written, written_row, written_piece, groups, groups_row, groups_piece}
+use Rattle.tm_onig_parse.specs.Grammar.{Atom, Plain, Escaped, Class, IsAtom, Toks, Single, Opening, Closing, Bar, Times, Comment, spelling, AreToks, Alts, First, Also, Row, Nothing, Then, Noted, Piece, Alone, Inside, Repeated, Behind, least_of, greatest_of, manner_of, written, written_row, written_piece, groups, groups_row, groups_piece}
 use Rattle.tm_onig_parse.specs.Meaning.{Built, quantified, tree_in, row_built, alts_built, atom_built, rows, parts, piece_built, meaning, Spells}
 
 -- A tree without groups and references.
@@ -80,6 +80,7 @@ toks_atoms ((Opening k, o) ∷ ks) are = toks_atoms ks are.1
 toks_atoms ((Closing, o) ∷ ks) are = toks_atoms ks are.1
 toks_atoms ((Bar, o) ∷ ks) are = toks_atoms ks are.1
 toks_atoms ((Times amount mark, o) ∷ ks) are = toks_atoms ks are.1
+toks_atoms ((Comment text, o) ∷ ks) are = toks_atoms ks are.1
 
 -- and so is each of two rows
 atoms_split : (ks ls : Toks) → AreAtoms (ks ++ ls) → AreAtoms ks × AreAtoms ls
@@ -89,6 +90,7 @@ atoms_split ((Opening k, o) ∷ ks) ls are = atoms_split ks ls are
 atoms_split ((Closing, o) ∷ ks) ls are = atoms_split ks ls are
 atoms_split ((Bar, o) ∷ ks) ls are = atoms_split ks ls are
 atoms_split ((Times amount mark, o) ∷ ks) ls are = atoms_split ks ls are
+atoms_split ((Comment text, o) ∷ ks) ls are = atoms_split ks ls are
 
 -- the numbers of built parts, one after another
 abbrev numbers_of : List Built → List ℕ
@@ -212,6 +214,7 @@ mutual
 
   parts_count : (r : Row) (o : Options) (n : ℕ) → AreAtoms (written_row r o) → Counts (numbers_of (parts r n)) (named_by (parts r n)) n (groups_row r)
   parts_count Nothing o n are = record { in_order = refl; none = refl }
+  parts_count (Noted row text) o n are = parts_count row o n (atoms_split (written_row row o) ((Comment text, o) ∷ []) are).0
   parts_count (Then row piece) o n are =
       let each = atoms_split (written_row row o) (written_piece piece o) are in
       let m = n + groups_row row in
@@ -223,6 +226,7 @@ mutual
   piece_count : (p : Piece) (o : Options) (n : ℕ) → AreAtoms (written_piece p o) →
       Counts (group_numbers (piece_built p n).tree) (references (piece_built p n).tree) n (groups_piece p)
   piece_count (Alone a) o n are = let bare = atom_bare a o are.0.0 are.0.1 in record { in_order = bare.numbers; none = bare.named }
+  piece_count (Behind piece text) o n are = piece_count piece o n (atoms_split (written_piece piece o) ((Comment text, o) ∷ []) are).0
   piece_count (Inside Captures alts) o n are =
       captures_count _ _ n (groups alts)
       (counts_of _ _ _ _ (n + 1) (groups alts) (alts_numbers (rows alts (n + 1))) (alts_named (rows alts (n + 1)))

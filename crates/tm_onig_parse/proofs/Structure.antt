@@ -3,7 +3,7 @@ use Rattle.std.proofs.Common.{◌≡◌, ℕ, ◌+◌, ◌≤◌, Bool, List, []
 use Rattle.tm_onig_parse.specs.declared.options.Options.{Options}
 use Rattle.tm_onig_parse.specs.declared.groups.Opener.{Opener}
 use Rattle.tm_onig_parse.specs.declared.quantifiers.Manner.{Manner}
-use Rattle.tm_onig_parse.specs.Grammar.{Toks, Closing, Bar, Times, Alts, First, Also, Row, Nothing, Then, Piece, Alone, Inside, Repeated, least_of, greatest_of, manner_of, written, written_row, written_piece, count, groups, groups_row, groups_piece}
+use Rattle.tm_onig_parse.specs.Grammar.{Toks, Closing, Bar, Times, Comment, Alts, First, Also, Row, Nothing, Then, Noted, Piece, Alone, Inside, Repeated, Behind, least_of, greatest_of, manner_of, written, written_row, written_piece, count, groups, groups_row, groups_piece}
 use Rattle.tm_onig_parse.specs.Meaning.{Built, highest, row_built, alts_built, enclosed, quantified, rows, parts, piece_built}
 use Rattle.tm_onig_parse.specs.Reading.{Open, Close, Repeats, Level, State, added, change_last, step}
 use Rattle.tm_onig_parse.proofs.Lexing.{sym_of}
@@ -115,6 +115,8 @@ mutual
   row_run : (r : Row) (outer : List Level) (k : Kind) (done : List Built) (n : ℕ) → n + groups_row r ≤ 1000 → highest (parts r n) ≤ 200 →
       Runs (written_row r k.options) (at outer k done [] n) (at outer k done (parts r n) (n + groups_row r))
   row_run Nothing outer k done n few low = same_opened _ _ _ _ (omega arith)
+  row_run (Noted row text) outer k done n few low =
+      runs_on (written_row row k.options) ((Comment text, k.options) ∷ []) _ _ _ (row_run row outer k done n few low) (_, refl, refl, refl)
   row_run (Then row piece) outer k done n few low =
       let m = n + groups_row row in
       runs_on (written_row row k.options) (written_piece piece k.options) _ _ _
@@ -125,6 +127,8 @@ mutual
 
   piece_run : (p : Piece) (outer : List Level) (k : Kind) (done row : List Built) (n : ℕ) → n + groups_piece p ≤ 1000 → (piece_built p n).height ≤ 200 →
       Runs (written_piece p k.options) (at outer k done row n) (at outer k done (row ++ piece_built p n ∷ []) (n + groups_piece p))
+  piece_run (Behind piece text) outer k done row n few low =
+      runs_on (written_piece piece k.options) ((Comment text, k.options) ∷ []) _ _ _ (piece_run piece outer k done row n few low) (_, refl, refl, refl)
   piece_run (Alone a) outer k done row n few low = (_, refl, refl, same_opened _ _ _ _ (omega arith))
   piece_run (Inside j alts) outer k done row n few low =
       let m = n + count j in

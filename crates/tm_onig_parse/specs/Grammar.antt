@@ -1,6 +1,7 @@
 -- Patterns as they are written. A pattern is made of things that are spelled one after another, each
 -- under the options that hold where it begins; it is a body, and what it means is in `Meaning`.
 use Rattle.std.specs.Prelude.{◌≡◌, ℕ, ◌==◌, Bool, true, false, List, [], ◌∷◌, ◌++◌, ◌+◌, Option, Some, None, if◌then◌else◌}
+use Rattle.std.specs.List.{list_any}
 use Rattle.tm_onig_class.specs.Tree.{Tree}
 use Rattle.tm_onig_parse.specs.declared.options.Options.{Options}
 use Rattle.tm_onig_parse.specs.declared.groups.Opener.{Opener}
@@ -111,13 +112,14 @@ marked question plus Plus = plus
 abbrev pub manner_of : Amount → Mark → Manner
 manner_of amount mark = marked (with_question amount) (with_plus amount) mark
 
--- The smallest things that are written. The last is a quantifier.
+-- The smallest things that are written, with quantifiers, and comments, which mean nothing.
 pub data Tok : Type 0 where
   Single : Atom → Tok
   Opening : Opener → Tok
   Closing : Tok
   Bar : Tok
   Times : Amount → Mark → Tok
+  Comment : List ℕ → Tok
 
 -- How it is spelled.
 abbrev pub text_of : Tok → List ℕ
@@ -126,12 +128,15 @@ text_of (Opening k) = opener_text k
 text_of Closing = 41 ∷ []
 text_of Bar = 124 ∷ []
 text_of (Times amount mark) = amount_text amount ++ mark_text mark
+text_of (Comment text) = 40 ∷ 63 ∷ 35 ∷ (text ++ 41 ∷ [])
 
--- It is one that there is, before what follows: a `?` behind `(` would begin another opening.
+-- It is one that there is, before what follows: a `?` behind `(` would begin another opening, and a
+-- `)` would end a comment.
 abbrev pub IsTok : Tok → Options → List ℕ → Type 0
 IsTok (Single a) o rest = IsAtom a o rest
 IsTok (Opening Captures) o rest = begins 63 rest ≡ false
 IsTok (Times amount mark) o rest = IsAmount amount × EndsMark mark rest
+IsTok (Comment text) o rest = list_any (λ c. c == 41) text ≡ false
 IsTok _ o rest = Unit {0}
 
 -- Things in a row, each with the options that hold where it begins.
@@ -149,7 +154,7 @@ AreToks [] = Unit {0}
 AreToks (k ∷ ks) = IsTok k.0 k.1 (spelling ks) × AreToks ks
 
 -- The grammar. A body is what a group holds: alternatives, which are rows of pieces. A piece is an
--- atom, a group, or a piece with a quantifier behind it.
+-- atom, a group, or a piece with a quantifier behind it. Comments stand in rows and behind pieces.
 mutual
   pub data Alts : Type 0 where
     First : Row → Alts
@@ -158,11 +163,13 @@ mutual
   pub data Row : Type 0 where
     Nothing : Row
     Then : Row → Piece → Row
+    Noted : Row → List ℕ → Row
 
   pub data Piece : Type 0 where
     Alone : Atom → Piece
     Inside : Opener → Alts → Piece
     Repeated : Piece → Amount → Mark → Piece
+    Behind : Piece → List ℕ → Piece
 
 -- What they are written as.
 abbrev mutual
@@ -173,11 +180,13 @@ abbrev mutual
   pub written_row : Row → Options → Toks
   written_row Nothing o = []
   written_row (Then row piece) o = written_row row o ++ written_piece piece o
+  written_row (Noted row text) o = written_row row o ++ (Comment text, o) ∷ []
 
   pub written_piece : Piece → Options → Toks
   written_piece (Alone a) o = (Single a, o) ∷ []
   written_piece (Inside k alts) o = (Opening k, o) ∷ (written alts o ++ (Closing, o) ∷ [])
   written_piece (Repeated piece amount mark) o = written_piece piece o ++ (Times amount mark, o) ∷ []
+  written_piece (Behind piece text) o = written_piece piece o ++ (Comment text, o) ∷ []
 
 -- How many capturing groups an opening begins.
 abbrev pub count : Opener → ℕ
@@ -195,8 +204,10 @@ abbrev mutual
   pub groups_row : Row → ℕ
   groups_row Nothing = 0
   groups_row (Then row piece) = groups_row row + groups_piece piece
+  groups_row (Noted row text) = groups_row row
 
   pub groups_piece : Piece → ℕ
   groups_piece (Alone a) = 0
   groups_piece (Inside k alts) = count k + groups alts
   groups_piece (Repeated piece amount mark) = groups_piece piece
+  groups_piece (Behind piece text) = groups_piece piece

@@ -10,7 +10,7 @@ use Rattle.tm_onig_parse.specs.declared.quantifiers.Manner.TheVariants.{Greedy, 
 use Rattle.tm_onig_parse.specs.declared.classes.Member.{Member}
 use Rattle.tm_onig_parse.specs.Characters.{no_options}
 use Rattle.tm_onig_parse.specs.Classes.{member_of, class_has}
-use Rattle.tm_onig_parse.specs.Grammar.{Atom, Plain, Escaped, Class, Alts, First, Also, Row, Nothing, Then, Piece, Alone, Inside, Repeated, least_of, greatest_of, manner_of, spelling, AreToks, written, count, groups, groups_row}
+use Rattle.tm_onig_parse.specs.Grammar.{Atom, Plain, Escaped, Class, Alts, First, Also, Row, Nothing, Then, Noted, Piece, Alone, Inside, Repeated, Behind, least_of, greatest_of, manner_of, spelling, AreToks, written, count, groups, groups_row}
 
 -- A tree with how deep its text is nested, whether it is a repetition, and whether each match of it
 -- takes a character.
@@ -112,11 +112,13 @@ abbrev mutual
   pub parts : Row → ℕ → List Built
   parts Nothing n = []
   parts (Then row piece) n = parts row n ++ piece_built piece (n + groups_row row) ∷ []
+  parts (Noted row text) n = parts row n
 
   pub piece_built : Piece → ℕ → Built
   piece_built (Alone a) n = atom_built a
   piece_built (Inside k alts) n = enclosed k (n + count k) (alts_built (rows alts (n + count k)))
   piece_built (Repeated piece amount mark) n = quantified (least_of amount) (greatest_of amount) (manner_of amount mark) (piece_built piece n)
+  piece_built (Behind piece text) n = piece_built piece n
 
 -- What a pattern means.
 abbrev pub built : Alts → Built

@@ -21,6 +21,7 @@ pub data Sym : Type 0 where
   Close : Sym
   Or : Sym
   Repeats : ℕ → Option ℕ → Manner → Sym
+  Skips : Sym
 
 -- one thing, and the text behind it
 abbrev pub Found : Type 0
@@ -44,6 +45,11 @@ after_digits (some, c ∷ t) = if c == 44 then ends_bounds (digits_at some t) el
 unfoldable pub bounds_at : List ℕ → Bool
 bounds_at t = after_digits (digits_at false t)
 
+-- a comment, up to its `)`
+unfoldable pub comment_at : List ℕ → Found
+comment_at [] = None
+comment_at (c ∷ t) = if c == 41 then Some (Skips, t) else comment_at t
+
 -- what stands behind a `(?<`
 unfoldable pub behind_at : List ℕ → Found
 behind_at [] = None
@@ -65,6 +71,7 @@ open_at (c ∷ t) = if c == 63 then groups_at t else Some (Open Captures, c ∷ 
         else if c == 61 then Some (Open (Looks true false), t)
         else if c == 33 then Some (Open (Looks true true), t)
         else if c == 60 then behind_at t
+        else if c == 35 then comment_at t
         else None
 
 -- a quantifier with these bounds, behind its sign or brace, where a `?` and a `+` set these manners
@@ -228,6 +235,7 @@ step Or s = Some (record { outer = s.outer; top = next_row s.top; opened = s.ope
 step (Repeats least greatest manner) s =
     option_map (λ row. record { outer = s.outer; top = with_row s.top row; opened = s.opened })
     (change_last (more_times least greatest manner) s.top.row)
+step Skips s = Some s
 
 -- each match takes a character
 abbrev pub advancing : Built → Option Tree

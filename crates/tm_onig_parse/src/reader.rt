@@ -121,6 +121,7 @@ fn take(alloc: Global, reader: &mut Reader, token: Token) -> Result<(), ParseFau
             greatest,
             manner,
         } => repeat_last(alloc, &mut reader.top.row, least, greatest, manner),
+        Token::Skips => Ok(()),
     }
 }
 

@@ -260,6 +260,18 @@ a+++ => times 1.. atomic times 1.. 'a
 a++++ => atomic times 1.. atomic times 1.. 'a
 a+?+ => times 1.. lazily 1.. 'a
 ba++? => row 2 'b times 0..1 atomic times 1.. 'a
+# comments
+a(?#c)b => row 2 'a 'b
+(?#c)a => 'a
+((?#c)a) => group 1 'a
+a|(?#c)b => either 2 'a 'b
+a(?#()b => row 2 'a 'b
+a(?#\)b => row 2 'a 'b
+ba(?#c)* => row 2 'b times 0.. 'a
+a(?#)(?#b)+ => times 1.. 'a
+ba+(?#c)? => row 2 'b times 0..1 times 1.. 'a
+a(?#c){2} => times 2..2 'a
+a{(?#c)2} => row 4 'a '{ '2 '}
 # braces that begin no bounds
 a{ => row 2 'a '{
 a{x} => row 4 'a '{ 'x '}
@@ -288,7 +300,6 @@ a{2}? =>
 # what comes later
 (?i)a =>
 (?<n>a) =>
-(?#c)a =>
 (?<a) =>
 \A =>
 \z =>
@@ -318,6 +329,10 @@ a{2}? =>
 [\g] =>
 [\ca] =>
 # never patterns
+(?#c) =>
+(?#c =>
+(?#c)*a =>
+a|(?#c)+ =>
 *a =>
 {2}a =>
 a|{2} =>
@@ -363,7 +378,7 @@ fn texts_and_trees(rt: HostRuntime) -> Result<(), Fail> {
             assert_eq!(rt; found.as_str(), tree, "of {text}");
         }
     }
-    assert_eq!(rt; rows, 202);
+    assert_eq!(rt; rows, 216);
     Ok(())
 }
 

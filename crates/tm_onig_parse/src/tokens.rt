@@ -5,7 +5,7 @@ ghost use Rattle.tm_onig_parse.specs.Characters.{single_tree, escape_tree, lette
 ghost use Rattle.tm_onig_parse.specs.Grammar.{sign_bounds};
 ghost use Rattle.tm_onig_parse.specs.Meaning.{leaf};
 ghost use Rattle.tm_onig_parse.specs.ClassReading.{class_at};
-ghost use Rattle.tm_onig_parse.specs.Reading.{Open, token_at, open_at, times_at, lazily_exact, interval_at, braces_at, escape_at, sign_or, means_class};
+ghost use Rattle.tm_onig_parse.specs.Reading.{Open, comment_at, token_at, open_at, times_at, lazily_exact, interval_at, braces_at, escape_at, sign_or, means_class};
 ghost use Rattle.tm_onig_parse.specs.declared.groups.Opener.TheVariants.{Looks};
 ghost use Rattle.tm_onig_parse.specs.Views.{Gives, sym_of_token, built_of};
 
@@ -34,6 +34,8 @@ pub enum Token {
         greatest: Option<u32>,
         manner: Manner,
     },
+    /// A comment.
+    Skips,
 }
 
 /// What a character means that stands alone.
@@ -74,6 +76,21 @@ fn sign(c: char) -> Option<(u32, Option<u32>)>
     }
 }
 
+/// What follows `(?#`: up to the next `)` it means nothing.
+#[tactic(auto, unfolding(crate::specs::Reading::comment_at))]
+fn comment(text: &[char]) -> Result<(Token, &[char]), ParseFault>
+    ensures { Gives (λ x. (sym_of_token x.0, x.1.now)) result (comment_at text.now) }
+{
+    let mut rest = text;
+    loop {
+        match rest {
+            [')', after @ ..] => return Ok((Token::Skips, after)),
+            [_, after @ ..] => rest = after,
+            [] => return Err(ParseFault::Unreadable),
+        }
+    }
+}
+
 fn look(ahead: bool, negative: bool) -> Token
     ensures { sym_of_token result ≡ Open (Looks ahead negative) }
 {
@@ -92,6 +109,7 @@ fn open(text: &[char]) -> Result<(Token, &[char]), ParseFault>
         ['?', '!', rest @ ..] => Ok((look(true, true), rest)),
         ['?', '<', '=', rest @ ..] => Ok((look(false, false), rest)),
         ['?', '<', '!', rest @ ..] => Ok((look(false, true), rest)),
+        ['?', '#', rest @ ..] => comment(rest),
         ['?', ..] => Err(ParseFault::Unreadable),
         _ => Ok((Token::Open(Opener::Captures), text)),
     }
