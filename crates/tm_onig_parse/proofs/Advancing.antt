@@ -1,14 +1,16 @@
 -- A part takes a character in each match exactly where its tree is at least one wide.
-use Rattle.std.proofs.Common.{◌≡◌, ℕ, zero, suc, ◌+◌, ◌*◌, ◌<◌, ◌≤◌, min, Bool, true, false, ◌||◌, ◌&&◌, List, [], ◌∷◌, ◌++◌, map, Option, refl, sym, ap, ap₂, ◌∙◌, arith, mul-zero, suc-mul}
+use Rattle.std.proofs.Common.{◌≡◌, ℕ, zero, suc, ◌+◌, ◌*◌, ◌<◌, ◌≤◌, min, Bool, true, false, ◌||◌, ◌&&◌, List, [], ◌∷◌, ◌++◌, map, Option, refl, sym, ap, ap₂, ◌∙◌, Some, None, arith, mul-zero, suc-mul}
 use Rattle.std.specs.Prelude.{nat_lt}
 use Rattle.std.proofs.lemmas.Bool.{lt-ltb, ltb-true}
 use Rattle.std.proofs.lemmas.Bool.Decides.{nat_tests}
 use Rattle.tm_onig_class.specs.Tree.{trees}
 use Rattle.tm_onig_class.specs.Widths.{least_width, widths_sum, widths_least}
 use Rattle.tm_onig_parse.specs.declared.groups.Opener.{Opener}
-use Rattle.tm_onig_parse.specs.declared.groups.Opener.TheVariants.{Captures, Groups}
-use Rattle.tm_onig_parse.specs.Grammar.{Atom, Plain, Escaped, Class, Alts, First, Also, Row, Nothing, Then, Piece, Alone, Inside, Repeated, count, groups, groups_row}
-use Rattle.tm_onig_parse.specs.Meaning.{Built, tree_in, any_takes, all_take, row_built, alts_built, enclosed, repeated, atom_built, rows, parts, piece_built, built, meaning}
+use Rattle.tm_onig_parse.specs.declared.groups.Opener.TheVariants.{Captures, Groups, Holds, Looks}
+use Rattle.tm_onig_parse.specs.declared.quantifiers.Manner.{Manner}
+use Rattle.tm_onig_parse.specs.declared.quantifiers.Manner.TheVariants.{Greedy, Lazy, Possessive, Optional, Again}
+use Rattle.tm_onig_parse.specs.Grammar.{Atom, Plain, Escaped, Class, Alts, First, Also, Row, Nothing, Then, Noted, Piece, Alone, Inside, Repeated, Behind, least_of, greatest_of, manner_of, count, groups, groups_row}
+use Rattle.tm_onig_parse.specs.Meaning.{Built, tree_in, any_takes, all_take, row_built, alts_built, enclosed, repeated, around, quantified, is_greedy, atom_built, rows, parts, piece_built, built, meaning}
 
 -- its mark says that the tree is wide
 abbrev Tied : Built → Type 0
@@ -78,11 +80,22 @@ enclosed_tied : (k : Opener) (n : ℕ) (b : Built) → Tied b → Tied (enclosed
 unfolding least_width
 enclosed_tied Captures n b is = is
 enclosed_tied Groups n b is = is
+enclosed_tied Holds n b is = is
+enclosed_tied (Looks ahead negative) n b is = refl
 
 -- a repetition
 repeated_tied : (least : ℕ) (greatest : Option ℕ) (greedy : Bool) (b : Built) → Tied b → Tied (repeated least greatest greedy b)
 unfolding least_width
 repeated_tied least greatest greedy b is = ap (λ t. nat_lt 0 least && t) is ∙ times_some least (least_width b.tree)
+
+-- what the manner makes of a repetition
+around_tied : (manner : Manner) (b : Built) → Tied b → Tied (around manner b)
+unfolding least_width
+around_tied Greedy b is = is
+around_tied Lazy b is = is
+around_tied Possessive b is = is
+around_tied Optional b is = repeated_tied 0 (Some 1) true b is
+around_tied Again b is = repeated_tied 1 None true b is
 
 -- an atom
 atom_tied : (a : Atom) → Tied (atom_built a)
@@ -98,12 +111,16 @@ mutual
 
   parts_tied : (r : Row) (n : ℕ) → AreTied (parts r n)
   parts_tied Nothing n = tt
+  parts_tied (Noted row text) n = parts_tied row n
   parts_tied (Then row piece) n = tied_append (parts row n) _ (parts_tied row n) (piece_tied piece (n + groups_row row), tt)
 
   piece_tied : (p : Piece) (n : ℕ) → Tied (piece_built p n)
   piece_tied (Alone a) n = atom_tied a
+  piece_tied (Behind piece text) n = piece_tied piece n
   piece_tied (Inside k alts) n = enclosed_tied k (n + count k) (alts_built (rows alts (n + count k))) (alts_tied (rows alts (n + count k)) (rows_tied alts (n + count k)))
-  piece_tied (Repeated piece sign least greatest greedy) n = repeated_tied least greatest greedy (piece_built piece n) (piece_tied piece n)
+  piece_tied (Repeated piece amount mark) n =
+      let manner = manner_of amount mark in
+      around_tied manner _ (repeated_tied (least_of amount) (greatest_of amount) (is_greedy manner) (piece_built piece n) (piece_tied piece n))
 
 -- the whole takes a character where it is wide enough
 pub takes_wide : (alts : Alts) → 1 ≤ least_width (meaning alts) → (built alts).takes ≡ true

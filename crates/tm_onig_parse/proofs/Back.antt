@@ -7,8 +7,8 @@ use Rattle.tm_onig_class.specs.Tree.{Tree}
 use Rattle.tm_onig_parse.specs.declared.groups.Opener.{Opener}
 use Rattle.tm_onig_parse.specs.declared.groups.Opener.TheVariants.{Groups}
 use Rattle.tm_onig_parse.specs.Characters.{no_options}
-use Rattle.tm_onig_parse.specs.Grammar.{Tok, Toks, Single, Opening, Closing, Bar, Times, Alts, First, Also, Row, Nothing, Then, Alone, Inside, Repeated, written, written_row, written_piece, count, groups, groups_row}
-use Rattle.tm_onig_parse.specs.Meaning.{Built, enclosed, rows, parts, built, meaning}
+use Rattle.tm_onig_parse.specs.Grammar.{Tok, Toks, Single, Opening, Closing, Bar, Times, Comment, Alts, First, Also, Row, Nothing, Then, Noted, Piece, Alone, Inside, Repeated, Behind, Amount, Mark, least_of, greatest_of, manner_of, written, written_row, written_piece, count, groups, groups_row, groups_piece}
+use Rattle.tm_onig_parse.specs.Meaning.{Built, enclosed, quantified, rows, parts, piece_built, built, meaning}
 use Rattle.tm_onig_parse.specs.ClassReading.{◌>>=◌}
 use Rattle.tm_onig_parse.specs.Reading.{Close, Or, Repeats, Level, State, added, level_built, close_in, within, more_times, change_last, step, advancing, finish}
 use Rattle.tm_onig_parse.proofs.Lexing.{sym_of}
@@ -146,11 +146,36 @@ bar_back outer (Some alts) row next e = record {
   whole = simp (append_assoc, append-nil);
 }
 
--- The last piece is repeated.
-record Repeats_last (row : Row) (sign least : ℕ) (greatest : Option ℕ) (greedy : Bool) (r : List Built) (n : ℕ) : Type 0 where
+-- comments one after another
+abbrev notes : List (List ℕ) → Toks
+notes [] = []
+notes (text ∷ texts) = (Comment text, no_options) ∷ notes texts
+
+-- a piece with comments behind it
+abbrev behind : Piece → List (List ℕ) → Piece
+behind piece [] = piece
+behind piece (text ∷ texts) = behind (Behind piece text) texts
+
+-- how it is written
+behind_written : (texts : List (List ℕ)) (piece : Piece) → written_piece (behind piece texts) no_options ≡ written_piece piece no_options ++ notes texts
+behind_written [] piece = sym (append-nil (written_piece piece no_options))
+behind_written (text ∷ texts) piece = behind_written texts (Behind piece text) ∙ append_assoc (written_piece piece no_options) ((Comment text, no_options) ∷ []) (notes texts)
+
+-- it means the same
+behind_built : (texts : List (List ℕ)) (piece : Piece) (n : ℕ) → piece_built (behind piece texts) n ≡ piece_built piece n
+behind_built [] piece n = refl
+behind_built (text ∷ texts) piece n = behind_built texts (Behind piece text) n
+
+-- and has as many groups
+behind_groups : (texts : List (List ℕ)) (piece : Piece) → groups_piece (behind piece texts) ≡ groups_piece piece
+behind_groups [] piece = refl
+behind_groups (text ∷ texts) piece = behind_groups texts (Behind piece text)
+
+-- The last piece is repeated, behind these comments.
+record Repeats_last (row : Row) (texts : List (List ℕ)) (amount : Amount) (mark : Mark) (r : List Built) (n : ℕ) : Type 0 where
   to : Row
   is : r ≡ parts to n
-  whole : written_row to no_options ≡ written_row row no_options ++ (Times sign least greatest greedy, no_options) ∷ []
+  whole : written_row to no_options ≡ written_row row no_options ++ (notes texts ++ (Times amount mark, no_options) ∷ [])
   count : groups_row to ≡ groups_row row
 
 -- one list in both
@@ -165,17 +190,30 @@ within_last b ts r e = by_test (nat_le b.height 200) e
     by_test true e = sym (same_list _ _ e)
     by_test false e = absurd cc
 
+-- the same parts of a quantifier
+abbrev last_times : Amount → Mark → Built → Option Built
+last_times amount mark = more_times (least_of amount) (greatest_of amount) (manner_of amount mark)
+
 -- the last piece with a quantifier
-repeat_back : (row : Row) (sign least : ℕ) (greatest : Option ℕ) (greedy : Bool) (r : List Built) (n : ℕ) →
-    change_last (more_times least greatest greedy) (parts row n) ≡ Some r → Repeats_last row sign least greatest greedy r n
+repeat_back : (row : Row) (texts : List (List ℕ)) (amount : Amount) (mark : Mark) (r : List Built) (n : ℕ) →
+    change_last (last_times amount mark) (parts row n) ≡ Some r → Repeats_last row texts amount mark r n
 unfolding change_last
-repeat_back Nothing sign least greatest greedy r n e = absurd cc
-repeat_back (Then row piece) sign least greatest greedy r n e = record {
-  to = Then row (Repeated piece sign least greatest greedy);
-  is = within_last _ (parts row n) r (rw change_last-snoc at e);
-  whole = sym (append_assoc (written_row row no_options) (written_piece piece no_options) ((Times sign least greatest greedy, no_options) ∷ []));
-  count = refl;
+repeat_back Nothing texts amount mark r n e = absurd cc
+repeat_back (Then row piece) texts amount mark r n e = record {
+  to = Then row (Repeated (behind piece texts) amount mark);
+  is = within_last _ (parts row n) r (rw change_last-snoc at e)
+      ∙ ap (λ b. parts row n ++ quantified (least_of amount) (greatest_of amount) (manner_of amount mark) b ∷ []) (sym (behind_built texts piece (n + groups_row row)));
+  whole = rw behind_written (simp append_assoc);
+  count = ap (λ k. groups_row row + k) (behind_groups texts piece);
 }
+repeat_back (Noted row text) texts amount mark r n e =
+    let b = repeat_back row (text ∷ texts) amount mark r n e in
+    record {
+      to = b.to;
+      is = b.is;
+      whole = b.whole ∙ sym (append_assoc (written_row row no_options) ((Comment text, no_options) ∷ []) (notes texts ++ (Times amount mark, no_options) ∷ []));
+      count = b.count;
+    }
 
 -- the list that there was
 map_ok : (o : Option (List Built)) (f : List Built → State) (next : State) → option_map f o ≡ Some next → (r : List Built) × (o ≡ Some r) × (next ≡ f r)
@@ -194,13 +232,13 @@ times_made outer before row to k r next is made toks count = record {
 }
 
 -- behind a quantifier
-times_back : (outer : List (Part × Opener)) (before : Option Alts) (row : Row) (sign least : ℕ) (greatest : Option ℕ) (greedy : Bool) (next : State) →
-    step (Repeats least greatest greedy) (state_of (stack outer before row)) ≡ Some next → Went (stack outer before row) (Times sign least greatest greedy) next
+times_back : (outer : List (Part × Opener)) (before : Option Alts) (row : Row) (amount : Amount) (mark : Mark) (next : State) →
+    step (Repeats (least_of amount) (greatest_of amount) (manner_of amount mark)) (state_of (stack outer before row)) ≡ Some next → Went (stack outer before row) (Times amount mark) next
 unfolding step
-times_back outer before row sign least greatest greedy next e =
+times_back outer before row amount mark next e =
     let m = map_ok _ _ next e in
-    let r = repeat_back row sign least greatest greedy m.0 (base before (outer_opened outer)) m.1 in
-    times_made outer before row r.to (Times sign least greatest greedy) m.0 next m.2 r.is r.whole r.count
+    let r = repeat_back row [] amount mark m.0 (base before (outer_opened outer)) m.1 in
+    times_made outer before row r.to (Times amount mark) m.0 next m.2 r.is r.whole r.count
 
 -- Each step of the reading is one of what is written.
 pub step_back : (k : Tok) (s : Stack) (next : State) → step (sym_of k) (state_of s) ≡ Some next → Went s k next
@@ -222,8 +260,13 @@ step_back (Opening k) s next e = record {
     opens_back outer top k = ap (λ o. record { outer = level_of outer top ∷ outer_of outer; top = level (kind k (opened_of top (outer_opened outer) + count k) o) [] []; opened = opened_of top (outer_opened outer) + count k }) (kind_options outer)
         ∙ same_opened _ _ _ _ (omega arith)
 step_back Closing s next e = close_back s.outer s.top.before s.top.row next e
+step_back (Comment text) s next e = record {
+  to = stack s.outer s.top.before (Noted s.top.row text);
+  is = sym (same_state _ _ e);
+  whole = simp append_assoc;
+}
 step_back Bar s next e = bar_back s.outer s.top.before s.top.row next e
-step_back (Times sign least greatest greedy) s next e = times_back s.outer s.top.before s.top.row sign least greatest greedy next e
+step_back (Times amount mark) s next e = times_back s.outer s.top.before s.top.row amount mark next e
 
 -- What was written ends as a whole.
 pub record Ends (s : Stack) (ks : Toks) (tree : Tree) : Type 0 where

@@ -5,7 +5,7 @@ use Rattle.std.proofs.lemmas.Bool.{ne_eqb, eqb-true, le-leb, leb-true, and_left,
 use Rattle.tm_onig_class.specs.declared.listed.Listed.{Listed}
 use Rattle.tm_onig_parse.specs.declared.classes.Member.{Member}
 use Rattle.tm_onig_parse.specs.declared.classes.Member.TheVariants as M
-use Rattle.tm_onig_parse.specs.Characters.{set_letter, escaped_char}
+use Rattle.tm_onig_parse.specs.Characters.{set_letter, escaped_char, is_no_char}
 use Rattle.tm_onig_parse.specs.Classes.{begins, is_raw, Single, Raw, Slash, single_text, value_of, IsSingle, Item, One, Range, Of, item_text, member_of, IsItem, items_text, AreItems}
 use Rattle.tm_onig_parse.specs.ClassReading.{◌>>=◌, slash_at, single_at, range_to, after_single, set_at, or_single, item_at, items_at}
 
@@ -163,7 +163,7 @@ item_found first t member rest e = or_found (set_at t) first t member rest refl 
 
 -- what a character means is no set
 pub no_letter : (c value : ℕ) → escaped_char c ≡ Some value → set_letter c ≡ None
-unfolding escaped_char set_letter
+unfolding escaped_char set_letter is_no_char
 no_letter c value e =
     let w = differs escaped_char 119 refl c value e in
     let d = differs escaped_char 100 refl c value e in

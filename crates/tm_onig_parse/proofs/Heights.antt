@@ -2,8 +2,10 @@
 use Rattle.std.proofs.Common.{◌≡◌, ℕ, ◌+◌, ◌≤◌, max, Bool, true, false, cond, List, [], ◌∷◌, ◌++◌, Option, arith}
 use Rattle.std.proofs.lemmas.Bool.Decides.{nat_tests}
 use Rattle.tm_onig_parse.specs.declared.groups.Opener.{Opener}
-use Rattle.tm_onig_parse.specs.declared.groups.Opener.TheVariants.{Captures, Groups}
-use Rattle.tm_onig_parse.specs.Meaning.{Built, highest, row_built, alts_built, enclosed, repeated}
+use Rattle.tm_onig_parse.specs.declared.groups.Opener.TheVariants.{Captures, Groups, Holds, Looks}
+use Rattle.tm_onig_parse.specs.declared.quantifiers.Manner.{Manner}
+use Rattle.tm_onig_parse.specs.declared.quantifiers.Manner.TheVariants.{Greedy, Lazy, Possessive, Optional, Again}
+use Rattle.tm_onig_parse.specs.Meaning.{Built, highest, row_built, alts_built, enclosed, repeated, is_greedy, around, quantified}
 
 -- the second is at most the greater
 max_right : (a b : ℕ) → max a b ≤ 200 → b ≤ 200
@@ -47,6 +49,8 @@ last_low (x ∷ xs) y h = last_low xs y (max_right x.height (highest (xs ++ y �
 pub enclosed_low : (k : Opener) (n : ℕ) (b : Built) → (enclosed k n b).height ≤ 200 → b.height ≤ 200
 enclosed_low Captures n b h = omega arith
 enclosed_low Groups n b h = omega arith
+enclosed_low Holds n b h = omega arith
+enclosed_low (Looks ahead negative) n b h = omega arith
 
 -- one more or none
 at_least : (is : Bool) (h : ℕ) → cond is (h + 1) h ≤ 200 → h ≤ 200
@@ -54,5 +58,18 @@ at_least true h e = omega arith
 at_least false h e = e
 
 -- what is repeated
-pub repeated_low : (least : ℕ) (greatest : Option ℕ) (greedy : Bool) (b : Built) → (repeated least greatest greedy b).height ≤ 200 → b.height ≤ 200
+repeated_low : (least : ℕ) (greatest : Option ℕ) (greedy : Bool) (b : Built) → (repeated least greatest greedy b).height ≤ 200 → b.height ≤ 200
 repeated_low least greatest greedy b h = at_least b.repeated b.height h
+
+-- a repetition in what its manner makes of it
+pub around_low : (manner : Manner) (b : Built) → (around manner b).height ≤ 200 → b.height ≤ 200
+around_low Greedy b h = h
+around_low Lazy b h = h
+around_low Possessive b h = h
+around_low Optional b h = at_least b.repeated b.height h
+around_low Again b h = at_least b.repeated b.height h
+
+-- what stands before a quantifier
+pub quantified_low : (least : ℕ) (greatest : Option ℕ) (manner : Manner) (b : Built) → (quantified least greatest manner b).height ≤ 200 → b.height ≤ 200
+quantified_low least greatest manner b h =
+    repeated_low least greatest (is_greedy manner) b (around_low manner (repeated least greatest (is_greedy manner) b) h)

@@ -10,7 +10,7 @@ use Rattle.tm_onig_parse.specs.declared.ParseFault.{ParseFault}
 use Rattle.tm_onig_parse.specs.declared.options.Options.{Options}
 use Rattle.tm_onig_parse.specs.declared.groups.Opener.TheVariants.{Groups}
 use Rattle.tm_onig_parse.specs.Characters.{no_options}
-use Rattle.tm_onig_parse.specs.Grammar.{Tok, Toks, Single, Opening, Closing, Bar, Times, text_of, IsTok, spelling, AreToks, Alts, Nothing, written, groups}
+use Rattle.tm_onig_parse.specs.Grammar.{Tok, Toks, Single, Opening, Closing, Bar, Times, Comment, text_of, IsTok, spelling, AreToks, Alts, Nothing, written, groups}
 use Rattle.tm_onig_parse.specs.Meaning.{Built, built, rows, meaning, Spells}
 use Rattle.tm_onig_parse.specs.ClassReading.{◌>>=◌}
 use Rattle.tm_onig_parse.specs.Reading.{Sym, Level, State, start, token_at, step, close_in, finish, read, onward, parsed}
@@ -53,7 +53,8 @@ step_few (Opening k) s next few e =
     omega (arith, leb-true _ _ ((cond_some _ _ _ e).0))
 step_few Closing s next few e = omega (arith, close_few s.outer s.top s.opened next e)
 step_few Bar s next few e = let at = ap (λ (s : State). s.opened) (same_state _ _ e) in omega arith
-step_few (Times sign least greatest greedy) s next few e = omega (arith, map_opened _ _ s.opened (λ r. refl) next e)
+step_few (Comment text) s next few e = let at = ap (λ (s : State). s.opened) (same_state _ _ e) in omega arith
+step_few (Times amount mark) s next few e = omega (arith, map_opened _ _ s.opened (λ r. refl) next e)
 
 -- one turn
 pub read_one : (n : ℕ) (s : State) (t : List ℕ) → 0 < length t → read (suc n) s t ≡ (token_at s.top.options t >>= λ y. step y.0 s >>= λ next. read n next y.1)

@@ -2,6 +2,8 @@ pub mod ClassExact
 pub mod ClassTurns
 pub mod ClassMembers
 pub mod BoundsExact
+pub mod BoundsValues
+pub mod Marks
 pub mod Lexing
 pub mod Heights
 pub mod Structure

@@ -3,14 +3,17 @@ use Rattle.std.proofs.Common.{◌≡◌, ℕ, zero, suc, ◌+◌, ◌≤◌, Boo
 use Rattle.std.specs.Prelude.{nat_le, ◌&&◌, ◌==◌, if◌then◌else◌}
 use Rattle.std.specs.List.{list_all}
 use Rattle.tm_onig_class.specs.Tree.{Tree, Char, Any, Holds, trees}
+use Rattle.tm_onig_class.specs.declared.patterns.Position.{Position}
 use Rattle.tm_onig_class.specs.declared.patterns.Position.TheVariants as Place
 use Rattle.tm_onig_class.specs.declared.listed.Listed.{Listed}
 use Rattle.tm_onig_class.specs.Groups.{group_numbers, numbers_in, references, references_in, counted, IsNumbered}
 use Rattle.tm_onig_parse.specs.declared.options.Options.{Options}
-use Rattle.tm_onig_parse.specs.declared.groups.Opener.TheVariants.{Captures, Groups}
-use Rattle.tm_onig_parse.specs.Characters.{no_options, is_special, single_tree, set_letter, escaped_char, set_or_char, escape_tree}
-use Rattle.tm_onig_parse.specs.Grammar.{Atom, Plain, Escaped, Class, IsAtom, Toks, Single, Opening, Closing, Bar, Times, spelling, AreToks, Alts, First, Also, Row, Nothing, Then, Piece, Alone, Inside, Repeated, written, written_row, written_piece, groups, groups_row, groups_piece}
-use Rattle.tm_onig_parse.specs.Meaning.{Built, tree_in, row_built, alts_built, atom_built, rows, parts, piece_built, meaning, Spells}
+use Rattle.tm_onig_parse.specs.declared.groups.Opener.TheVariants.{Captures, Groups, Holds, Looks}
+use Rattle.tm_onig_parse.specs.declared.quantifiers.Manner.{Manner}
+use Rattle.tm_onig_parse.specs.declared.quantifiers.Manner.TheVariants.{Greedy, Lazy, Possessive, Optional, Again}
+use Rattle.tm_onig_parse.specs.Characters.{no_options, is_special, single_tree, set_letter, escaped_char, set_or_char, place_letter, is_later, place_or_other, escape_tree}
+use Rattle.tm_onig_parse.specs.Grammar.{Atom, Plain, Escaped, Class, IsAtom, Toks, Single, Opening, Closing, Bar, Times, Comment, spelling, AreToks, Alts, First, Also, Row, Nothing, Then, Noted, Piece, Alone, Inside, Repeated, Behind, least_of, greatest_of, manner_of, written, written_row, written_piece, groups, groups_row, groups_piece}
+use Rattle.tm_onig_parse.specs.Meaning.{Built, quantified, tree_in, row_built, alts_built, atom_built, rows, parts, piece_built, meaning, Spells}
 
 -- A tree without groups and references.
 record IsBare (tree : Tree) : Type 0 where
@@ -45,12 +48,16 @@ set_bare o (Some letter) c = record { numbers = refl; named = refl }
 set_bare o None (Some c) = record { numbers = refl; named = refl }
 set_bare o None None = tt
 
+-- a place, a set or a character
+place_bare : (o : Options) (place : Option Position) (c : ℕ) → MaybeBare (place_or_other o place c)
+unfolding group_numbers references
+place_bare o (Some place) c = record { numbers = refl; named = refl }
+place_bare o None c = either_bare (is_later c) None _ tt (set_bare o (set_letter c) (escaped_char c))
+
 -- what stands behind a backslash
 escape_bare : (o : Options) (c : ℕ) → MaybeBare (escape_tree o c)
-unfolding escape_tree group_numbers references
-escape_bare o c =
-    either_bare (c == 98) _ _ (bare (Holds Place.Word) refl refl)
-    (either_bare (c == 66) _ _ (bare (Holds Place.NotWord) refl refl) (set_bare o (set_letter c) (escaped_char c)))
+unfolding escape_tree
+escape_bare o c = place_bare o (place_letter c) c
 
 -- the tree of an atom
 atom_bare : (a : Atom) (o : Options) (rest : List ℕ) → IsAtom a o rest → IsBare (atom_built a).tree
@@ -72,7 +79,8 @@ toks_atoms ((Single a, o) ∷ ks) are = ((spelling ks, are.0), toks_atoms ks are
 toks_atoms ((Opening k, o) ∷ ks) are = toks_atoms ks are.1
 toks_atoms ((Closing, o) ∷ ks) are = toks_atoms ks are.1
 toks_atoms ((Bar, o) ∷ ks) are = toks_atoms ks are.1
-toks_atoms ((Times sign least greatest greedy, o) ∷ ks) are = toks_atoms ks are.1
+toks_atoms ((Times amount mark, o) ∷ ks) are = toks_atoms ks are.1
+toks_atoms ((Comment text, o) ∷ ks) are = toks_atoms ks are.1
 
 -- and so is each of two rows
 atoms_split : (ks ls : Toks) → AreAtoms (ks ++ ls) → AreAtoms ks × AreAtoms ls
@@ -81,7 +89,8 @@ atoms_split ((Single a, o) ∷ ks) ls are = let rest = atoms_split ks ls are.1 i
 atoms_split ((Opening k, o) ∷ ks) ls are = atoms_split ks ls are
 atoms_split ((Closing, o) ∷ ks) ls are = atoms_split ks ls are
 atoms_split ((Bar, o) ∷ ks) ls are = atoms_split ks ls are
-atoms_split ((Times sign least greatest greedy, o) ∷ ks) ls are = atoms_split ks ls are
+atoms_split ((Times amount mark, o) ∷ ks) ls are = atoms_split ks ls are
+atoms_split ((Comment text, o) ∷ ks) ls are = atoms_split ks ls are
 
 -- the numbers of built parts, one after another
 abbrev numbers_of : List Built → List ℕ
@@ -182,6 +191,16 @@ one_row : (row : Row) (n : ℕ) → Counts (numbers_of (parts row n)) (named_by 
     Counts (numbers_of (row_built (parts row n) ∷ [])) (named_by (row_built (parts row n) ∷ [])) n (groups_row row)
 one_row row n c = counts_of _ _ _ _ n (groups_row row) (append-nil _ ∙ row_numbers (parts row n)) (append-nil _ ∙ row_named (parts row n)) c
 
+-- a quantifier adds none
+quantified_count : (least : ℕ) (greatest : Option ℕ) (manner : Manner) (b : Built) (n k : ℕ) → Counts (group_numbers b.tree) (references b.tree) n k →
+    Counts (group_numbers (quantified least greatest manner b).tree) (references (quantified least greatest manner b).tree) n k
+unfolding group_numbers references
+quantified_count least greatest Greedy b n k c = c
+quantified_count least greatest Lazy b n k c = c
+quantified_count least greatest Possessive b n k c = c
+quantified_count least greatest Optional b n k c = c
+quantified_count least greatest Again b n k c = c
+
 mutual
   unfolding group_numbers references counted
 
@@ -195,6 +214,7 @@ mutual
 
   parts_count : (r : Row) (o : Options) (n : ℕ) → AreAtoms (written_row r o) → Counts (numbers_of (parts r n)) (named_by (parts r n)) n (groups_row r)
   parts_count Nothing o n are = record { in_order = refl; none = refl }
+  parts_count (Noted row text) o n are = parts_count row o n (atoms_split (written_row row o) ((Comment text, o) ∷ []) are).0
   parts_count (Then row piece) o n are =
       let each = atoms_split (written_row row o) (written_piece piece o) are in
       let m = n + groups_row row in
@@ -206,6 +226,7 @@ mutual
   piece_count : (p : Piece) (o : Options) (n : ℕ) → AreAtoms (written_piece p o) →
       Counts (group_numbers (piece_built p n).tree) (references (piece_built p n).tree) n (groups_piece p)
   piece_count (Alone a) o n are = let bare = atom_bare a o are.0.0 are.0.1 in record { in_order = bare.numbers; none = bare.named }
+  piece_count (Behind piece text) o n are = piece_count piece o n (atoms_split (written_piece piece o) ((Comment text, o) ∷ []) are).0
   piece_count (Inside Captures alts) o n are =
       captures_count _ _ n (groups alts)
       (counts_of _ _ _ _ (n + 1) (groups alts) (alts_numbers (rows alts (n + 1))) (alts_named (rows alts (n + 1)))
@@ -214,8 +235,17 @@ mutual
       counts_same _ _ (n + 0) n (groups alts) (0 + groups alts) (omega arith) (omega arith)
       (counts_of _ _ _ _ (n + 0) (groups alts) (alts_numbers (rows alts (n + 0))) (alts_named (rows alts (n + 0)))
       (rows_count alts o (n + 0) (atoms_split (written alts o) ((Closing, o) ∷ []) are).0))
-  piece_count (Repeated piece sign least greatest greedy) o n are =
-      piece_count piece o n (atoms_split (written_piece piece o) ((Times sign least greatest greedy, o) ∷ []) are).0
+  piece_count (Inside Holds alts) o n are =
+      counts_same _ _ (n + 0) n (groups alts) (0 + groups alts) (omega arith) (omega arith)
+      (counts_of _ _ _ _ (n + 0) (groups alts) (alts_numbers (rows alts (n + 0))) (alts_named (rows alts (n + 0)))
+      (rows_count alts o (n + 0) (atoms_split (written alts o) ((Closing, o) ∷ []) are).0))
+  piece_count (Inside (Looks ahead negative) alts) o n are =
+      counts_same _ _ (n + 0) n (groups alts) (0 + groups alts) (omega arith) (omega arith)
+      (counts_of _ _ _ _ (n + 0) (groups alts) (alts_numbers (rows alts (n + 0))) (alts_named (rows alts (n + 0)))
+      (rows_count alts o (n + 0) (atoms_split (written alts o) ((Closing, o) ∷ []) are).0))
+  piece_count (Repeated piece amount mark) o n are =
+      quantified_count (least_of amount) (greatest_of amount) (manner_of amount mark) (piece_built piece n) n (groups_piece piece)
+      (piece_count piece o n (atoms_split (written_piece piece o) ((Times amount mark, o) ∷ []) are).0)
 
 -- so many are counted
 length-counted : (n k : ℕ) → length (counted n k) ≡ k

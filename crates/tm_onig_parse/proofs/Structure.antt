@@ -2,11 +2,12 @@
 use Rattle.std.proofs.Common.{◌≡◌, ℕ, ◌+◌, ◌≤◌, Bool, List, [], ◌∷◌, ◌++◌, Option, Some, None, refl, sym, ap, ◌∙◌, subst, arith, option_map, le-leb}
 use Rattle.tm_onig_parse.specs.declared.options.Options.{Options}
 use Rattle.tm_onig_parse.specs.declared.groups.Opener.{Opener}
-use Rattle.tm_onig_parse.specs.Grammar.{Toks, Closing, Bar, Times, Alts, First, Also, Row, Nothing, Then, Piece, Alone, Inside, Repeated, written, written_row, written_piece, count, groups, groups_row, groups_piece}
-use Rattle.tm_onig_parse.specs.Meaning.{Built, highest, row_built, alts_built, enclosed, repeated, rows, parts, piece_built}
+use Rattle.tm_onig_parse.specs.declared.quantifiers.Manner.{Manner}
+use Rattle.tm_onig_parse.specs.Grammar.{Toks, Closing, Bar, Times, Comment, Alts, First, Also, Row, Nothing, Then, Noted, Piece, Alone, Inside, Repeated, Behind, least_of, greatest_of, manner_of, written, written_row, written_piece, count, groups, groups_row, groups_piece}
+use Rattle.tm_onig_parse.specs.Meaning.{Built, highest, row_built, alts_built, enclosed, quantified, rows, parts, piece_built}
 use Rattle.tm_onig_parse.specs.Reading.{Open, Close, Repeats, Level, State, added, change_last, step}
 use Rattle.tm_onig_parse.proofs.Lexing.{sym_of}
-use Rattle.tm_onig_parse.proofs.Heights.{row_low, alts_low, front_low, last_low, enclosed_low, repeated_low}
+use Rattle.tm_onig_parse.proofs.Heights.{row_low, alts_low, front_low, last_low, enclosed_low, quantified_low}
 
 -- The things are read one after another, each under the options that hold there.
 abbrev pub Runs : Toks → State → State → Type 0
@@ -87,11 +88,11 @@ unfolding step
 closes j m o a n l outer opened low = rw (whole_of, le-leb (enclosed j m (alts_built (rows a n))).height 200 low) refl
 
 -- a quantifier
-goes_on : (least : ℕ) (greatest : Option ℕ) (greedy : Bool) (outer : List Level) (k : Kind) (done row : List Built) (b : Built) (n : ℕ) →
-    (repeated least greatest greedy b).height ≤ 200 →
-    step (Repeats least greatest greedy) (at outer k done (row ++ b ∷ []) n) ≡ Some (at outer k done (row ++ repeated least greatest greedy b ∷ []) n)
+goes_on : (least : ℕ) (greatest : Option ℕ) (manner : Manner) (outer : List Level) (k : Kind) (done row : List Built) (b : Built) (n : ℕ) →
+    (quantified least greatest manner b).height ≤ 200 →
+    step (Repeats least greatest manner) (at outer k done (row ++ b ∷ []) n) ≡ Some (at outer k done (row ++ quantified least greatest manner b ∷ []) n)
 unfolding step
-goes_on least greatest greedy outer k done row b n low = rw (change_last-snoc, le-leb (repeated least greatest greedy b).height 200 low) refl
+goes_on least greatest manner outer k done row b n low = rw (change_last-snoc, le-leb (quantified least greatest manner b).height 200 low) refl
 
 mutual
   unfolding step
@@ -114,6 +115,8 @@ mutual
   row_run : (r : Row) (outer : List Level) (k : Kind) (done : List Built) (n : ℕ) → n + groups_row r ≤ 1000 → highest (parts r n) ≤ 200 →
       Runs (written_row r k.options) (at outer k done [] n) (at outer k done (parts r n) (n + groups_row r))
   row_run Nothing outer k done n few low = same_opened _ _ _ _ (omega arith)
+  row_run (Noted row text) outer k done n few low =
+      runs_on (written_row row k.options) ((Comment text, k.options) ∷ []) _ _ _ (row_run row outer k done n few low) (_, refl, refl, refl)
   row_run (Then row piece) outer k done n few low =
       let m = n + groups_row row in
       runs_on (written_row row k.options) (written_piece piece k.options) _ _ _
@@ -124,6 +127,8 @@ mutual
 
   piece_run : (p : Piece) (outer : List Level) (k : Kind) (done row : List Built) (n : ℕ) → n + groups_piece p ≤ 1000 → (piece_built p n).height ≤ 200 →
       Runs (written_piece p k.options) (at outer k done row n) (at outer k done (row ++ piece_built p n ∷ []) (n + groups_piece p))
+  piece_run (Behind piece text) outer k done row n few low =
+      runs_on (written_piece piece k.options) ((Comment text, k.options) ∷ []) _ _ _ (piece_run piece outer k done row n few low) (_, refl, refl, refl)
   piece_run (Alone a) outer k done row n few low = (_, refl, refl, same_opened _ _ _ _ (omega arith))
   piece_run (Inside j alts) outer k done row n few low =
       let m = n + count j in
@@ -135,7 +140,10 @@ mutual
             (alts_run alts (l ∷ outer) (kind j m k.options) m (omega arith) (alts_low (rows alts m) (enclosed_low j m (alts_built (rows alts m)) low)))
             (_, refl, closes j m k.options alts m l outer (m + groups alts) low, same_opened _ _ _ _ (omega arith)),
       )
-  piece_run (Repeated piece sign least greatest greedy) outer k done row n few low =
-      runs_on (written_piece piece k.options) ((Times sign least greatest greedy, k.options) ∷ []) _ _ _
-      (piece_run piece outer k done row n few (repeated_low least greatest greedy (piece_built piece n) low))
-      (_, refl, goes_on least greatest greedy outer k done row (piece_built piece n) (n + groups_piece piece) low, refl)
+  piece_run (Repeated piece amount mark) outer k done row n few low =
+      let least = least_of amount in
+      let greatest = greatest_of amount in
+      let manner = manner_of amount mark in
+      runs_on (written_piece piece k.options) ((Times amount mark, k.options) ∷ []) _ _ _
+      (piece_run piece outer k done row n few (quantified_low least greatest manner (piece_built piece n) low))
+      (_, refl, goes_on least greatest manner outer k done row (piece_built piece n) (n + groups_piece piece) low, refl)

@@ -1,9 +1,9 @@
 -- What single characters and escapes mean.
 use Rattle.std.specs.Prelude.{ℕ, ◌==◌, Bool, true, false, not, Option, Some, None, if◌then◌else◌, codes}
 use Rattle.std.specs.List.{list_any}
-use Rattle.std.specs.Char.{is_ascii_alphanumeric}
 use Rattle.tm_onig_class.specs.declared.listed.Listed.{Listed}
 use Rattle.tm_onig_class.specs.declared.listed.Listed.TheVariants.{Word, Digit, Space, Xdigit}
+use Rattle.tm_onig_class.specs.declared.patterns.Position.{Position}
 use Rattle.tm_onig_class.specs.declared.patterns.Position.TheVariants as Place
 use Rattle.tm_onig_class.specs.Members.{ranges_of}
 use Rattle.tm_onig_class.specs.Listed.{in_listed}
@@ -44,12 +44,24 @@ set_letter c =
 abbrev pub letter_has : Listed × Bool → ℕ → Bool
 letter_has letter c = if letter.1 then not (in_listed letter.0 c) else in_listed letter.0 c
 
--- The character that an escape stands for: a tab, a line feed, or what is no ASCII letter or digit.
+-- The digits and letters that stand for no character behind a backslash: those of the sets, those
+-- that begin a longer form, and those that have a meaning elsewhere that is not read.
+unfoldable pub is_no_char : ℕ → Bool
+is_no_char c = list_any (λ d. d == c) (codes "0123456789wdshWDSHxupPgKXRyYNOcCM")
+
+-- The character that an escape stands for: a control character that has a letter, or itself. Where
+-- `\b` is a position it is read as one before.
 unfoldable pub escaped_char : ℕ → Option ℕ
 escaped_char c =
     if c == 116 then Some 9
     else if c == 110 then Some 10
-    else if is_ascii_alphanumeric c then None
+    else if c == 118 then Some 11
+    else if c == 102 then Some 12
+    else if c == 114 then Some 13
+    else if c == 97 then Some 7
+    else if c == 101 then Some 27
+    else if c == 98 then Some 8
+    else if is_no_char c then None
     else Some c
 
 -- Such a set as a tree.
@@ -62,9 +74,25 @@ set_or_char o (Some letter) other = Some (letter_tree o letter)
 set_or_char o None (Some c) = Some (Char c o.fold)
 set_or_char o None None = None
 
+-- The place that a letter stands for behind a backslash, outside classes.
+unfoldable pub place_letter : ℕ → Option Position
+place_letter c =
+    if c == 98 then Some Place.Word
+    else if c == 66 then Some Place.NotWord
+    else if c == 90 then Some Place.BeforeFinal
+    else if c == 122 then Some Place.TextEnd
+    else None
+
+-- Letters that are not read behind a backslash so far: `\k` would refer to a group, and `\A` and `\G` are places
+-- that the lines of a text do not tell yet.
+unfoldable pub is_later : ℕ → Bool
+is_later c = list_any (λ d. d == c) (codes "kAG")
+
+-- A place where the letter stands for one, else a set or a character.
+abbrev pub place_or_other : Options → Option Position → ℕ → Option Tree
+place_or_other o (Some place) c = Some (Holds place)
+place_or_other o None c = if is_later c then None else set_or_char o (set_letter c) (escaped_char c)
+
 -- What a character means behind a backslash, outside classes.
 unfoldable pub escape_tree : Options → ℕ → Option Tree
-escape_tree o c =
-    if c == 98 then Some (Holds Place.Word)
-    else if c == 66 then Some (Holds Place.NotWord)
-    else set_or_char o (set_letter c) (escaped_char c)
+escape_tree o c = place_or_other o (place_letter c) c

@@ -1,5 +1,6 @@
 -- Bounds between braces, `{n}`, `{n,}`, `{,m}`, `{n,m}`: a brace that begins them is no character.
-use Rattle.std.specs.Prelude.{◌≡◌, ℕ, ◌+◌, ◌<◌, true, List, [], ◌∷◌, ◌++◌, length}
+use Rattle.std.specs.Prelude.{◌≡◌, ℕ, ◌+◌, ◌<◌, ◌≤◌, true, List, [], ◌∷◌, ◌++◌, length, Option, Some, None}
+use Rattle.std.specs.Str.Parse.{digits_value}
 use Rattle.std.specs.List.{list_all}
 use Rattle.std.specs.Char.{is_ascii_digit}
 
@@ -21,3 +22,20 @@ IsBounds (Between n m) = (list_all is_ascii_digit n ≡ true) × (list_all is_as
 -- No bounds stand at the front.
 abbrev pub NoBounds : List ℕ → Type 0
 NoBounds t = (b : Bounds) (more : List ℕ) → IsBounds b → t ≡ bounds_text b ++ more → ⊥
+
+-- The least number that they allow.
+abbrev pub least_in : Bounds → ℕ
+least_in (Exactly n) = digits_value 10 n
+least_in (Between n m) = digits_value 10 n
+
+-- The greatest, if there is one.
+abbrev pub greatest_in : Bounds → Option ℕ
+greatest_in (Exactly n) = Some (digits_value 10 n)
+greatest_in (Between n []) = None
+greatest_in (Between n (d ∷ m)) = Some (digits_value 10 (d ∷ m))
+
+-- No number is above 100,000, and the first is at most the second.
+abbrev pub AreLimited : Bounds → Type 0
+AreLimited (Exactly n) = digits_value 10 n ≤ 100000
+AreLimited (Between n []) = digits_value 10 n ≤ 100000
+AreLimited (Between n (d ∷ m)) = (digits_value 10 n ≤ digits_value 10 (d ∷ m)) × (digits_value 10 (d ∷ m) ≤ 100000)

@@ -1,14 +1,16 @@
 -- What a pattern means, and which texts are patterns.
-use Rattle.std.specs.Prelude.{◌≡◌, ℕ, ◌+◌, ◌≤◌, ◌&&◌, ◌||◌, nat_lt, Bool, true, false, List, [], ◌∷◌, ◌++◌, map, max, length, Option, if◌then◌else◌}
+use Rattle.std.specs.Prelude.{◌≡◌, ℕ, ◌+◌, ◌≤◌, ◌&&◌, ◌||◌, nat_lt, Bool, true, false, List, [], ◌∷◌, ◌++◌, map, max, length, Option, Some, None, if◌then◌else◌}
 use Rattle.tm_onig_class.specs.Members.{ranges_of}
-use Rattle.tm_onig_class.specs.Tree.{Tree, Empty, InSet, Cat, Alt, Group, Repeat, trees}
+use Rattle.tm_onig_class.specs.Tree.{Tree, Empty, InSet, Cat, Alt, Group, Atomic, Look, Repeat, trees}
 use Rattle.tm_onig_class.specs.Widths.{least_width}
 use Rattle.tm_onig_parse.specs.declared.groups.Opener.{Opener}
-use Rattle.tm_onig_parse.specs.declared.groups.Opener.TheVariants.{Captures, Groups}
+use Rattle.tm_onig_parse.specs.declared.groups.Opener.TheVariants.{Captures, Groups, Holds, Looks}
+use Rattle.tm_onig_parse.specs.declared.quantifiers.Manner.{Manner}
+use Rattle.tm_onig_parse.specs.declared.quantifiers.Manner.TheVariants.{Greedy, Lazy, Possessive, Optional, Again}
 use Rattle.tm_onig_parse.specs.declared.classes.Member.{Member}
 use Rattle.tm_onig_parse.specs.Characters.{no_options}
 use Rattle.tm_onig_parse.specs.Classes.{member_of, class_has}
-use Rattle.tm_onig_parse.specs.Grammar.{Atom, Plain, Escaped, Class, Alts, First, Also, Row, Nothing, Then, Piece, Alone, Inside, Repeated, spelling, AreToks, written, count, groups, groups_row}
+use Rattle.tm_onig_parse.specs.Grammar.{Atom, Plain, Escaped, Class, Alts, First, Also, Row, Nothing, Then, Noted, Piece, Alone, Inside, Repeated, Behind, least_of, greatest_of, manner_of, spelling, AreToks, written, count, groups, groups_row}
 
 -- A tree with how deep its text is nested, whether it is a repetition, and whether each match of it
 -- takes a character.
@@ -67,6 +69,8 @@ alts_built (t ∷ u ∷ ts) = record { tree = Alt (trees (map tree_in (t ∷ u �
 abbrev pub enclosed : Opener → ℕ → Built → Built
 enclosed Captures n b = record { tree = Group n b.tree; height = b.height + 1; repeated = false; takes = b.takes }
 enclosed Groups n b = record { tree = b.tree; height = b.height + 1; repeated = false; takes = b.takes }
+enclosed Holds n b = record { tree = Atomic b.tree; height = b.height + 1; repeated = false; takes = b.takes }
+enclosed (Looks ahead negative) n b = record { tree = Look b.tree ahead negative; height = b.height + 1; repeated = false; takes = false }
 
 -- A repetition of what is repeated counts as a group around it.
 abbrev pub repeated : ℕ → Option ℕ → Bool → Built → Built
@@ -76,6 +80,27 @@ repeated least greatest greedy b = record {
   repeated = true;
   takes = nat_lt 0 least && b.takes;
 }
+
+-- A repetition of which the first success alone counts.
+abbrev pub kept : Built → Built
+kept b = record { tree = Atomic b.tree; height = b.height; repeated = true; takes = b.takes }
+
+-- Whether one time more is tried first.
+abbrev pub is_greedy : Manner → Bool
+is_greedy Lazy = false
+is_greedy manner = true
+
+-- What the manner makes of a repetition.
+abbrev pub around : Manner → Built → Built
+around Greedy b = b
+around Lazy b = b
+around Possessive b = kept b
+around Optional b = repeated 0 (Some 1) true b
+around Again b = repeated 1 None true b
+
+-- What stands before a quantifier, with it.
+abbrev pub quantified : ℕ → Option ℕ → Manner → Built → Built
+quantified least greatest manner b = around manner (repeated least greatest (is_greedy manner) b)
 
 -- What each means where n capturing groups were opened before: groups have numbers in the order of
 -- their opening.
@@ -87,11 +112,13 @@ abbrev mutual
   pub parts : Row → ℕ → List Built
   parts Nothing n = []
   parts (Then row piece) n = parts row n ++ piece_built piece (n + groups_row row) ∷ []
+  parts (Noted row text) n = parts row n
 
   pub piece_built : Piece → ℕ → Built
   piece_built (Alone a) n = atom_built a
   piece_built (Inside k alts) n = enclosed k (n + count k) (alts_built (rows alts (n + count k)))
-  piece_built (Repeated piece sign least greatest greedy) n = repeated least greatest greedy (piece_built piece n)
+  piece_built (Repeated piece amount mark) n = quantified (least_of amount) (greatest_of amount) (manner_of amount mark) (piece_built piece n)
+  piece_built (Behind piece text) n = piece_built piece n
 
 -- What a pattern means.
 abbrev pub built : Alts → Built

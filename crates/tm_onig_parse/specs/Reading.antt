@@ -1,16 +1,18 @@
 -- A second reading: one thing after another, over a stack of open groups.
-use Rattle.std.specs.Prelude.{ℕ, zero, suc, ◌+◌, ◌==◌, ◌&&◌, nat_le, Bool, true, false, List, [], ◌∷◌, ◌++◌, length, Option, Some, None, option_map, if◌then◌else◌}
-use Rattle.std.specs.Char.{is_ascii_digit}
+use Rattle.std.specs.Prelude.{ℕ, zero, suc, ◌+◌, ◌*◌, ◌==◌, ◌&&◌, nat_le, nat_lt, Bool, true, false, List, [], ◌∷◌, ◌++◌, length, Option, Some, None, option_map, if◌then◌else◌}
+use Rattle.std.specs.Char.{is_ascii_digit, digit_value}
 use Rattle.tm_onig_class.specs.Tree.{Tree}
 use Rattle.tm_onig_parse.specs.declared.options.Options.{Options}
 use Rattle.tm_onig_parse.specs.declared.groups.Opener.{Opener}
-use Rattle.tm_onig_parse.specs.declared.groups.Opener.TheVariants.{Captures, Groups}
+use Rattle.tm_onig_parse.specs.declared.groups.Opener.TheVariants.{Captures, Groups, Holds, Looks}
+use Rattle.tm_onig_parse.specs.declared.quantifiers.Manner.{Manner}
+use Rattle.tm_onig_parse.specs.declared.quantifiers.Manner.TheVariants.{Greedy, Lazy, Possessive, Optional, Again}
 use Rattle.tm_onig_parse.specs.declared.classes.Member.{Member}
 use Rattle.tm_onig_parse.specs.Characters.{no_options, single_tree, escape_tree}
 use Rattle.tm_onig_parse.specs.Classes.{begins}
 use Rattle.tm_onig_parse.specs.Grammar.{sign_bounds, count}
-use Rattle.tm_onig_parse.specs.Meaning.{Built, leaf, class_built, row_built, alts_built, enclosed, repeated}
-use Rattle.tm_onig_parse.specs.ClassReading.{◌>>=◌, class_at}
+use Rattle.tm_onig_parse.specs.Meaning.{Built, leaf, class_built, row_built, alts_built, enclosed, quantified}
+use Rattle.tm_onig_parse.specs.ClassReading.{◌>>=◌, rest_of, class_at}
 
 -- What is left of one thing once it is read.
 pub data Sym : Type 0 where
@@ -18,7 +20,8 @@ pub data Sym : Type 0 where
   Open : Opener → Sym
   Close : Sym
   Or : Sym
-  Repeats : ℕ → Option ℕ → Bool → Sym
+  Repeats : ℕ → Option ℕ → Manner → Sym
+  Skips : Sym
 
 -- one thing, and the text behind it
 abbrev pub Found : Type 0
@@ -42,6 +45,19 @@ after_digits (some, c ∷ t) = if c == 44 then ends_bounds (digits_at some t) el
 unfoldable pub bounds_at : List ℕ → Bool
 bounds_at t = after_digits (digits_at false t)
 
+-- a comment, up to its `)`
+unfoldable pub comment_at : List ℕ → Found
+comment_at [] = None
+comment_at (c ∷ t) = if c == 41 then Some (Skips, t) else comment_at t
+
+-- what stands behind a `(?<`
+unfoldable pub behind_at : List ℕ → Found
+behind_at [] = None
+behind_at (c ∷ t) =
+    if c == 61 then Some (Open (Looks false false), t)
+    else if c == 33 then Some (Open (Looks false true), t)
+    else None
+
 -- what stands behind a `(`
 unfoldable pub open_at : List ℕ → Found
 open_at [] = Some (Open Captures, [])
@@ -49,15 +65,67 @@ open_at (c ∷ t) = if c == 63 then groups_at t else Some (Open Captures, c ∷ 
   where
     groups_at : List ℕ → Found
     groups_at [] = None
-    groups_at (c ∷ t) = if c == 58 then Some (Open Groups, t) else None
+    groups_at (c ∷ t) =
+        if c == 58 then Some (Open Groups, t)
+        else if c == 62 then Some (Open Holds, t)
+        else if c == 61 then Some (Open (Looks true false), t)
+        else if c == 33 then Some (Open (Looks true true), t)
+        else if c == 60 then behind_at t
+        else if c == 35 then comment_at t
+        else None
 
--- a quantifier with these bounds, behind its sign
-unfoldable pub times_at : ℕ → Option ℕ → List ℕ → Found
-times_at least greatest [] = Some (Repeats least greatest true, [])
-times_at least greatest (c ∷ t) =
-    if c == 63 then Some (Repeats least greatest false, t)
-    else if c == 43 then None
-    else Some (Repeats least greatest true, c ∷ t)
+-- a quantifier with these bounds, behind its sign or brace, where a `?` and a `+` set these manners
+unfoldable pub times_at : ℕ → Option ℕ → Manner → Manner → List ℕ → Found
+times_at least greatest question plus [] = Some (Repeats least greatest Greedy, [])
+times_at least greatest question plus (c ∷ t) =
+    if c == 63 then Some (Repeats least greatest question, t)
+    else if c == 43 then Some (Repeats least greatest plus, t)
+    else Some (Repeats least greatest Greedy, c ∷ t)
+
+-- a number that is not above the limit
+abbrev pub limited : ℕ → Option ℕ
+limited n = if nat_le n 100000 then Some n else None
+
+-- a number with one digit more
+abbrev pub with_digit : Option ℕ → ℕ → Option ℕ
+with_digit None digit = None
+with_digit (Some n) digit = limited (n * 10 + digit)
+
+-- a number with the digits at the front, and the text behind them
+unfoldable pub number_at : Option ℕ → List ℕ → Option ℕ × List ℕ
+number_at n [] = (n, [])
+number_at n (c ∷ t) = if nat_lt (digit_value c) 10 then number_at (with_digit n (digit_value c)) t else (n, c ∷ t)
+
+-- bounds, whether they are one number, and the text behind them
+abbrev pub Interval : Type 0
+Interval = Option ((ℕ × Option ℕ) × (Bool × List ℕ))
+
+-- the second number is at least the first
+abbrev pub ordered : ℕ → Option ℕ × List ℕ → Interval
+ordered n (None, t) = None
+ordered n (Some m, t) = if nat_le n m then Some ((n, Some m), (false, rest_of t)) else None
+
+-- what stands behind the comma
+abbrev pub second_at : ℕ → List ℕ → Interval
+second_at n t = if begins 125 t then Some ((n, None), (false, rest_of t)) else ordered n (number_at (Some 0) t)
+
+-- what stands behind the first number
+abbrev pub first_at : Option ℕ × List ℕ → Interval
+first_at (None, t) = None
+first_at (Some n, t) = if begins 44 t then second_at n (rest_of t) else Some ((n, Some n), (true, rest_of t))
+
+-- the bounds at the front
+abbrev pub interval_at : List ℕ → Interval
+interval_at t = first_at (number_at (Some 0) t)
+
+-- what a `?` makes of bounds
+abbrev pub lazily_exact : Bool → Manner
+lazily_exact exact = if exact then Optional else Lazy
+
+-- a quantifier with such bounds
+abbrev pub braces_at : Interval → Found
+braces_at None = None
+braces_at (Some x) = times_at x.0.0 x.0.1 (lazily_exact x.1.0) Again x.1.1
 
 -- a leaf, if there is one
 abbrev pub means : Option Tree → List ℕ → Found
@@ -76,8 +144,8 @@ means_class (Some x) = Some (Means (class_built x.0.0 x.0.1), x.1)
 
 -- a quantifier, or a character or sign that stands alone
 abbrev pub sign_or : Options → Option (ℕ × Option ℕ) → ℕ → List ℕ → Found
-sign_or o None c t = if (c == 123) && bounds_at t then None else means (single_tree o c) t
-sign_or o (Some bounds) c t = times_at bounds.0 bounds.1 t
+sign_or o None c t = if (c == 123) && bounds_at t then braces_at (interval_at t) else means (single_tree o c) t
+sign_or o (Some bounds) c t = times_at bounds.0 bounds.1 Lazy Possessive t
 
 -- the first thing of the text
 unfoldable pub token_at : Options → List ℕ → Found
@@ -148,8 +216,8 @@ change_last f (t ∷ []) = option_map (λ u. u ∷ []) (f t)
 change_last f (t ∷ u ∷ ts) = option_map (λ us. t ∷ us) (change_last f (u ∷ ts))
 
 -- a repetition, if it is not nested too deep
-abbrev pub more_times : ℕ → Option ℕ → Bool → Built → Option Built
-more_times least greatest greedy b = within (repeated least greatest greedy b)
+abbrev pub more_times : ℕ → Option ℕ → Manner → Built → Option Built
+more_times least greatest manner b = within (quantified least greatest manner b)
 
 -- the state behind an opening, if there are not too many groups
 abbrev pub open_in : Opener → State → Option State
@@ -164,9 +232,10 @@ step (Means part) s = Some (record { outer = s.outer; top = added s.top part; op
 step (Open k) s = open_in k s
 step Close s = close_in s.outer s.top s.opened
 step Or s = Some (record { outer = s.outer; top = next_row s.top; opened = s.opened })
-step (Repeats least greatest greedy) s =
+step (Repeats least greatest manner) s =
     option_map (λ row. record { outer = s.outer; top = with_row s.top row; opened = s.opened })
-    (change_last (more_times least greatest greedy) s.top.row)
+    (change_last (more_times least greatest manner) s.top.row)
+step Skips s = Some s
 
 -- each match takes a character
 abbrev pub advancing : Built → Option Tree

@@ -2,7 +2,7 @@
 use Rattle.std.specs.Prelude.{◌≡◌, List, map, reverse, Option, Some, None, Result, Ok, Err}
 use Rattle.tm_onig_class.specs.Tree.{tree_of}
 use Rattle.tm_onig_parse.specs.Meaning.{Built}
-use Rattle.tm_onig_parse.specs.Reading.{Sym, Means, Open, Close, Or, Repeats, Level, State}
+use Rattle.tm_onig_parse.specs.Reading.{Sym, Means, Open, Close, Or, Repeats, Skips, Level, State}
 use Rattle.tm_onig_parse.specs.declared.ParseFault.{ParseFault}
 use Rattle.tm_onig_parse.specs.declared.ParseFault.TheVariants.{Unreadable, OutOfMemory}
 use Rattle.tm_onig_parse.specs.declared.tokens.Token.{Token}
@@ -36,7 +36,8 @@ sym_of_token (T.Means part) = Means (built_of part)
 sym_of_token (T.Open opener) = Open opener
 sym_of_token T.Close = Close
 sym_of_token T.Or = Or
-sym_of_token (T.Repeats least greatest greedy) = Repeats least greatest greedy
+sym_of_token (T.Repeats least greatest manner) = Repeats least greatest manner
+sym_of_token T.Skips = Skips
 
 -- what a frame stands for
 abbrev pub level_of_frame : Frame → Level

@@ -20,20 +20,24 @@ pub enum Member {
 }
 
 /// The character that an escape stands for.
-#[tactic(auto, unfolding(crate::specs::Characters::escaped_char))]
+#[tactic(auto, unfolding(crate::specs::Characters::escaped_char, crate::specs::Characters::is_no_char))]
 pub fn escaped(c: char) -> Option<char>
     ensures { result ≡ escaped_char c }
 {
     match c {
         't' => Some('\t'),
         'n' => Some('\n'),
-        _ => {
-            if c.is_ascii_alphanumeric() {
-                None
-            } else {
-                Some(c)
-            }
-        }
+        'v' => Some('\u{B}'),
+        'f' => Some('\u{C}'),
+        'r' => Some('\r'),
+        'a' => Some('\u{7}'),
+        'e' => Some('\u{1B}'),
+        'b' => Some('\u{8}'),
+        '0' | '1' | '2' | '3' | '4' | '5' | '6' | '7' | '8' | '9' => None,
+        'w' | 'd' | 's' | 'h' | 'W' | 'D' | 'S' | 'H' => None,
+        'x' | 'u' | 'p' | 'P' => None,
+        'g' | 'K' | 'X' | 'R' | 'y' | 'Y' | 'N' | 'O' | 'c' | 'C' | 'M' => None,
+        _ => Some(c),
     }
 }
 
@@ -160,7 +164,7 @@ fn closes(first: bool, text: &[char]) -> bool
     }
 }
 
-fn tail(text: &[char]) -> &[char]
+pub fn tail(text: &[char]) -> &[char]
     ensures { result.now ≡ rest_of text.now }
 {
     match text {

@@ -17,6 +17,10 @@ pub enum Opener {
     Captures,
     /// `(?:`
     Groups,
+    /// `(?>`: only its first success counts.
+    Holds,
+    /// `(?=`, `(?!`, `(?<=`, `(?<!`: it takes no character.
+    Looks { ahead: bool, negative: bool },
 }
 
 /// A group that is open, or the whole pattern.

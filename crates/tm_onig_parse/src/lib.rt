@@ -20,6 +20,7 @@ mod intervals;
 mod options;
 mod part;
 mod parts;
+mod quantifiers;
 mod reader;
 mod tokens;
 
@@ -37,7 +38,7 @@ pub enum ParseFault {
 
 /// The pattern that a text spells, after Oniguruma's syntax for Ruby. `Unreadable` comes exactly
 /// where the text is not in the grammar, or beyond its limits: 65,536 characters, 1,000 groups that
-/// capture, 200 groups, classes and repeated quantifiers within one another.
+/// capture, 200 groups, looks, classes and repeated quantifiers within one another.
 pub fn parse(alloc: Global, text: &Name) -> Result<Pattern, ParseFault>
     // What is read is spelled so, and means this tree.
     ensures found { IfOk result (λ pattern. (alts : Alts) × Spells text.now alts × (tree_of pattern ≡ meaning alts)) }

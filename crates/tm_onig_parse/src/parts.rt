@@ -1,9 +1,9 @@
 //! What is made of parts: rows, alternatives, groups and repetitions.
-ghost use Rattle.std.specs.Prelude.{◌≡◌, ◌≤◌, ◌+◌, nat_lt, if◌then◌else◌, Some, ◌++◌, ◌∷◌, [], map};
+ghost use Rattle.std.specs.Prelude.{◌≡◌, ◌≤◌, ◌+◌, false, nat_lt, if◌then◌else◌, Some, ◌++◌, ◌∷◌, [], map};
 ghost use Rattle.tm_onig_class.specs.Tree.{tree_of};
 ghost use Rattle.tm_onig_class.specs.Widths.{least_width};
-ghost use Rattle.tm_onig_parse.specs.Meaning.{leaf, row_built, alts_built, enclosed, highest, any_takes, all_take, tree_in};
-ghost use Rattle.tm_onig_parse.specs.Reading.{within, more_times};
+ghost use Rattle.tm_onig_parse.specs.Meaning.{leaf, row_built, alts_built, enclosed, repeated, highest, any_takes, all_take, tree_in};
+ghost use Rattle.tm_onig_parse.specs.Reading.{within};
 ghost use Rattle.tm_onig_parse.specs.Views.{Gives, Steps, built_of};
 
 use crate::ParseFault;
@@ -145,6 +145,19 @@ pub fn push(parts: &mut Vec<Part>, part: Part) -> Result<(), ParseFault>
     Ok(())
 }
 
+/// A part that is a group.
+fn enclosing(pattern: Pattern, height: u32, takes: bool) -> Part
+    requires { height ≤ 200 }
+    ensures { built_of result ≡ record { tree = tree_of pattern; height = height; repeated = false; takes = takes } }
+{
+    Part {
+        pattern,
+        height,
+        repeated: false,
+        takes,
+    }
+}
+
 /// A group around a part. The number is that of a group that captures.
 #[tactic(auto, using(tm_onig_class::proofs::Trees::nodes))]
 pub fn group(alloc: Global, opener: Opener, number: u32, body: Part) -> Result<Part, ParseFault>
@@ -159,24 +172,32 @@ pub fn group(alloc: Global, opener: Opener, number: u32, body: Part) -> Result<P
     if height >= DEEPEST {
         return Err(ParseFault::Unreadable);
     }
+    let height = height + 1;
     match opener {
         Opener::Captures => {
             let Ok(body) = Box::new(alloc, pattern) else {
                 return Err(ParseFault::OutOfMemory);
             };
-            Ok(Part {
-                pattern: Pattern::Group { number, body },
-                height: height + 1,
-                repeated: false,
-                takes,
-            })
+            Ok(enclosing(Pattern::Group { number, body }, height, takes))
         }
-        Opener::Groups => Ok(Part {
-            pattern,
-            height: height + 1,
-            repeated: false,
-            takes,
-        }),
+        Opener::Groups => Ok(enclosing(pattern, height, takes)),
+        Opener::Holds => {
+            let Ok(body) = Box::new(alloc, pattern) else {
+                return Err(ParseFault::OutOfMemory);
+            };
+            Ok(enclosing(Pattern::Atomic(body), height, takes))
+        }
+        Opener::Looks { ahead, negative } => {
+            let Ok(body) = Box::new(alloc, pattern) else {
+                return Err(ParseFault::OutOfMemory);
+            };
+            let pattern = Pattern::Look {
+                body,
+                ahead,
+                negative,
+            };
+            Ok(enclosing(pattern, height, false))
+        }
     }
 }
 
@@ -197,7 +218,7 @@ pub fn repeat(
     greatest: Option<u32>,
     greedy: bool,
 ) -> Result<Part, ParseFault>
-    ensures { Gives built_of result (more_times least greatest greedy (built_of part)) }
+    ensures { Gives built_of result (within (repeated least greatest greedy (built_of part))) }
 {
     let Part {
         pattern,

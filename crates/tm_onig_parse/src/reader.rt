@@ -7,7 +7,8 @@ ghost use Rattle.tm_onig_parse.specs.Views.{Gives, Steps, built_of, level_of_fra
 
 use crate::groups::{Frame, Opener, end_row, fresh, whole};
 use crate::part::Part;
-use crate::parts::{group, push, repeat};
+use crate::parts::{group, push};
+use crate::quantifiers::{Manner, quantify};
 use crate::tokens::{Token, next_token};
 use crate::{ParseFault, options};
 use std::alloc::Global;
@@ -36,14 +37,14 @@ fn repeat_last(
     row: &mut Vec<Part>,
     least: u32,
     greatest: Option<u32>,
-    greedy: bool,
+    manner: Manner,
 ) -> Result<(), ParseFault>
-    ensures { Steps result (map built_of row.new.items) (change_last (more_times least greatest greedy) (map built_of row.old.items)) }
+    ensures { Steps result (map built_of row.new.items) (change_last (more_times least greatest manner) (map built_of row.old.items)) }
 {
     let Some(part) = row.pop() else {
         return Err(ParseFault::Unreadable);
     };
-    match repeat(alloc, part, least, greatest, greedy) {
+    match quantify(alloc, part, least, greatest, manner) {
         Ok(whole) => push(row, whole),
         Err(fault) => Err(fault),
     }
@@ -68,7 +69,7 @@ fn count(opener: Opener) -> u32
 {
     match opener {
         Opener::Captures => 1,
-        Opener::Groups => 0,
+        Opener::Groups | Opener::Holds | Opener::Looks { .. } => 0,
     }
 }
 
@@ -118,8 +119,9 @@ fn take(alloc: Global, reader: &mut Reader, token: Token) -> Result<(), ParseFau
         Token::Repeats {
             least,
             greatest,
-            greedy,
-        } => repeat_last(alloc, &mut reader.top.row, least, greatest, greedy),
+            manner,
+        } => repeat_last(alloc, &mut reader.top.row, least, greatest, manner),
+        Token::Skips => Ok(()),
     }
 }
 

@@ -76,6 +76,10 @@ fn word<'a>(
         Pattern::Empty => format!(in alloc; "empty"),
         Pattern::Char { c: '\n', .. } => format!(in alloc; "line-feed"),
         Pattern::Char { c: '\t', .. } => format!(in alloc; "tab"),
+        Pattern::Char { c, .. } if *c < ' ' => {
+            let code = *c as u32;
+            format!(in alloc; "code-{code}")
+        }
         Pattern::Char { c, fold: _ } => format!(in alloc; "'{c}"),
         Pattern::Any { newline: _ } => format!(in alloc; "any"),
         Pattern::Set { set, fold: _ } => {
@@ -95,6 +99,20 @@ fn word<'a>(
         Pattern::Group { number, body } => {
             waiting.push(body)?;
             format!(in alloc; "group {number}")
+        }
+        Pattern::Atomic(body) => {
+            waiting.push(body)?;
+            format!(in alloc; "atomic")
+        }
+        Pattern::Look {
+            body,
+            ahead,
+            negative,
+        } => {
+            waiting.push(body)?;
+            let not = if *negative { "not-" } else { "" };
+            let side = if *ahead { "ahead" } else { "behind" };
+            format!(in alloc; "{not}{side}")
         }
         Pattern::Repeat {
             body,
@@ -124,12 +142,22 @@ ab => row 2 'a 'b
 \n => line-feed
 \t => tab
 \\ => '\
+\v => code-11
+\f => code-12
+\r => code-13
+\a => code-7
+\e => code-27
+\i\j\l\m\o\q => row 6 'i 'j 'l 'm 'o 'q
+\E\F\I\J\L\Q => row 6 'E 'F 'I 'J 'L 'Q
+\T\U\V => row 3 'T 'U 'V
 \é => 'é
 \- => '-
 a] => row 2 'a ']
 a} => row 2 'a '}
 ^a$ => row 3 LineStart 'a LineEnd
 \ba\B => row 3 Word 'a NotWord
+a\Z => row 2 'a BeforeFinal
+a\z => row 2 'a TextEnd
 # sets
 \d => set[09]
 \D => set[abzA-]^&_.# é]
@@ -160,6 +188,11 @@ a} => row 2 'a '}
 [.] => set[.]
 [\t ] => set[ ]
 [\W\s] => set[-]^&.# ]
+[\a\v\f\r\e0] => set[0]
+[\b] => set[]
+[\A\B\Z\z] => set[zA]
+[\G\k9] => set[9]
+[a-\z] => set[abz]
 # groups and alternatives
 a|b => either 2 'a 'b
 a|b|c => either 3 'a 'b 'c
@@ -172,6 +205,18 @@ a|b|c => either 3 'a 'b 'c
 a(?:b|) => row 2 'a either 2 'b empty
 a(?:) => row 2 'a empty
 (ab|c) => group 1 either 2 row 2 'a 'b 'c
+# atomic groups and looks
+(?>a) => atomic 'a
+(?>a|b)c => row 2 atomic either 2 'a 'b 'c
+(?>(a)(?>b)) => atomic row 2 group 1 'a atomic 'b
+(?=a)a => row 2 ahead 'a 'a
+(?!a)b => row 2 not-ahead 'a 'b
+(?<=a)b => row 2 behind 'a 'b
+(?<!a)b => row 2 not-behind 'a 'b
+(?<=(a)|b)(c) => row 2 behind either 2 group 1 'a 'b group 2 'c
+a(?!) => row 2 'a not-ahead empty
+(?=a)*b => row 2 times 0.. ahead 'a 'b
+(?<!(?=a)b)c => row 2 not-behind row 2 ahead 'a 'b 'c
 # quantifiers
 a+ => times 1.. 'a
 a+? => lazily 1.. 'a
@@ -184,10 +229,56 @@ ab** => row 2 'a times 0.. times 0.. 'b
 ab??? => row 2 'a times 0..1 lazily 0..1 'b
 ^*a => row 2 times 0.. LineStart 'a
 [ab]+ => times 1.. set[ab]
+# bounds
+a{2} => times 2..2 'a
+a{2,} => times 2.. 'a
+ba{,2} => row 2 'b times 0..2 'a
+a{2,3} => times 2..3 'a
+a{02} => times 2..2 'a
+a{100000} => times 100000..100000 'a
+a{1,100000} => times 1..100000 'a
+a|b{12} => either 2 'a times 12..12 'b
+^{2}a => row 2 times 2..2 LineStart 'a
+(?=a){2}b => row 2 times 2..2 ahead 'a 'b
+ba{2}? => row 2 'b times 0..1 times 2..2 'a
+a{2,2}? => lazily 2..2 'a
+a{2,3}? => lazily 2..3 'a
+a{2,}? => lazily 2.. 'a
+ba{,3}? => row 2 'b lazily 0..3 'a
+a{2}+ => times 1.. times 2..2 'a
+a{2,3}+ => times 1.. times 2..3 'a
+a{2}++ => times 1.. times 1.. times 2..2 'a
+ba{2}?? => row 2 'b times 0..1 times 0..1 times 2..2 'a
+a{2}{3} => times 3..3 times 2..2 'a
+a{2,3}?+ => times 1.. lazily 2..3 'a
+ba{2}*? => row 2 'b lazily 0.. times 2..2 'a
+# possessive marks
+a++ => atomic times 1.. 'a
+ba*+ => row 2 'b atomic times 0.. 'a
+ba?+ => row 2 'b atomic times 0..1 'a
+a+++ => times 1.. atomic times 1.. 'a
+a++++ => atomic times 1.. atomic times 1.. 'a
+a+?+ => times 1.. lazily 1.. 'a
+ba++? => row 2 'b times 0..1 atomic times 1.. 'a
+# comments
+a(?#c)b => row 2 'a 'b
+(?#c)a => 'a
+((?#c)a) => group 1 'a
+a|(?#c)b => either 2 'a 'b
+a(?#()b => row 2 'a 'b
+a(?#\)b => row 2 'a 'b
+ba(?#c)* => row 2 'b times 0.. 'a
+a(?#)(?#b)+ => times 1.. 'a
+ba+(?#c)? => row 2 'b times 0..1 times 1.. 'a
+a(?#c){2} => times 2..2 'a
+a{(?#c)2} => row 4 'a '{ '2 '}
 # braces that begin no bounds
 a{ => row 2 'a '{
 a{x} => row 4 'a '{ 'x '}
 a{,} => row 4 'a '{ ', '}
+a{2 => row 3 'a '{ '2
+a{2,3 => row 5 'a '{ '2 ', '3
+a{-1} => row 5 'a '{ '- '1 '}
 { 1} => row 4 '{ '  '1 '}
 # no match advances by less than one character
  =>
@@ -198,37 +289,60 @@ a? =>
 a| =>
 a|b* =>
 () =>
+(?=a) =>
+(?<!a)+ =>
+(?>a*) =>
+(?>) =>
 (a*)+ =>
-# bounds, and what else comes later
-a{2} =>
-a{2,} =>
+a{0} =>
 a{,2} =>
-a{2,3} =>
-a{3,2} =>
-{2}a =>
+a{2}? =>
+# what comes later
 (?i)a =>
-(?=a)a =>
 (?<n>a) =>
-(?#c)a =>
-(?>a) =>
-a++ =>
-ab*+ =>
-ab?+ =>
-\A =>
-\za =>
+(?<a) =>
+\Aa =>
+\Ga =>
+\z =>
+\k<a>a =>
 (a)\1 =>
 \x41 =>
 \p{L} =>
-\a =>
-\Q =>
 [a&&b] =>
 [!-&&b] =>
 [a[b]] =>
 [[:alpha:]] =>
-[\b] =>
 [\x41] =>
+\0a =>
+\9a =>
+[\1] =>
+\g\a =>
+\Ka =>
+\Xa =>
+\Ra =>
+\ya =>
+\Ya =>
+\Na =>
+\Oa =>
+\ca =>
+\Ca =>
+\Ma =>
+[\g] =>
+[\ca] =>
 # never patterns
+(?#c) =>
+(?#c =>
+(?#c)*a =>
+a|(?#c)+ =>
 *a =>
+{2}a =>
+a|{2} =>
+({2}) =>
+a{3,2} =>
+a{100001} =>
+a{1,100001} =>
+a{,100001}b =>
+a{99999999999999999999} =>
 + =>
 a|*b =>
 (*a) =>
@@ -236,6 +350,13 @@ a|*b =>
 a) =>
 (?a) =>
 (? =>
+(?= =>
+(?<= =>
+(?< =>
+(?<) =>
+(?=a =>
+(?>a =>
+(?=*a)a =>
 [a =>
 [] =>
 [^] =>
@@ -258,7 +379,7 @@ fn texts_and_trees(rt: HostRuntime) -> Result<(), Fail> {
             assert_eq!(rt; found.as_str(), tree, "of {text}");
         }
     }
-    assert_eq!(rt; rows, 118);
+    assert_eq!(rt; rows, 217);
     Ok(())
 }
 
@@ -288,15 +409,23 @@ fn nested(
 }
 
 // How often, what opens, what stands inside, what closes, and whether it is a pattern.
-const LIMITS: [(usize, &str, &str, &str, bool); 13] = [
+const LIMITS: [(usize, &str, &str, &str, bool); 21] = [
     (200, "(", "a", ")", true),
     (201, "(", "a", ")", false),
     (200, "(?:", "a", ")", true),
+    (200, "(?>", "a", ")", true),
+    (201, "(?>", "a", ")", false),
+    (199, "(?=", "(a)", ")b", true),
+    (200, "(?=", "(a)", ")b", false),
     (201, "(?:", "a", ")", false),
     (199, "(", "[a]", ")", true),
     (200, "(", "[a]", ")", false),
     (200, "", "a+?", "+?", true),
     (201, "", "a+?", "+?", false),
+    (100, "", "a+", "{1}+", true),
+    (101, "", "a+", "{1}+", false),
+    (201, "", "a", "++", true),
+    (202, "", "a", "++", false),
     (1_000, "(a)", "a", "", true),
     (1_001, "(a)", "a", "", false),
     (65_535, "", "a", "a", true),

@@ -1,21 +1,23 @@
 //! The smallest things that are written, one at a time.
 ghost use Rattle.std.specs.Prelude.{◌≡◌, nat_lt, option_map, Some};
 ghost use Rattle.tm_onig_class.specs.Tree.{tree_of};
-ghost use Rattle.tm_onig_parse.specs.Characters.{single_tree, escape_tree, letter_tree, set_or_char, set_letter, escaped_char};
+ghost use Rattle.tm_onig_parse.specs.Characters.{single_tree, escape_tree, letter_tree, set_or_char, set_letter, escaped_char, place_letter};
 ghost use Rattle.tm_onig_parse.specs.Grammar.{sign_bounds};
 ghost use Rattle.tm_onig_parse.specs.Meaning.{leaf};
 ghost use Rattle.tm_onig_parse.specs.ClassReading.{class_at};
-ghost use Rattle.tm_onig_parse.specs.Reading.{token_at, open_at, times_at, escape_at, sign_or, means_class};
+ghost use Rattle.tm_onig_parse.specs.Reading.{Open, comment_at, token_at, open_at, times_at, lazily_exact, interval_at, braces_at, escape_at, sign_or, means_class};
+ghost use Rattle.tm_onig_parse.specs.declared.groups.Opener.TheVariants.{Looks};
 ghost use Rattle.tm_onig_parse.specs.Views.{Gives, sym_of_token, built_of};
 
 use crate::ParseFault;
 use crate::class_sets::{class_part, letter_set};
 use crate::classes::{class, escaped, letter};
 use crate::groups::Opener;
-use crate::intervals::bounds;
+use crate::intervals::{bounds, interval};
 use crate::options::Options;
 use crate::part::Part;
 use crate::parts::leaf;
+use crate::quantifiers::Manner;
 use std::alloc::Global;
 use tm_onig_class::listed::Listed;
 use tm_onig_class::patterns::{Pattern, Position};
@@ -30,8 +32,10 @@ pub enum Token {
     Repeats {
         least: u32,
         greatest: Option<u32>,
-        greedy: bool,
+        manner: Manner,
     },
+    /// A comment.
+    Skips,
 }
 
 /// What a character means that stands alone.
@@ -72,41 +76,95 @@ fn sign(c: char) -> Option<(u32, Option<u32>)>
     }
 }
 
+/// What follows `(?#`: up to the next `)` it means nothing.
+#[tactic(auto, unfolding(crate::specs::Reading::comment_at))]
+fn comment(text: &[char]) -> Result<(Token, &[char]), ParseFault>
+    ensures { Gives (λ x. (sym_of_token x.0, x.1.now)) result (comment_at text.now) }
+{
+    let mut rest = text;
+    loop {
+        match rest {
+            [')', after @ ..] => return Ok((Token::Skips, after)),
+            [_, after @ ..] => rest = after,
+            [] => return Err(ParseFault::Unreadable),
+        }
+    }
+}
+
+fn look(ahead: bool, negative: bool) -> Token
+    ensures { sym_of_token result ≡ Open (Looks ahead negative) }
+{
+    Token::Open(Opener::Looks { ahead, negative })
+}
+
 /// What follows `(`.
-#[tactic(auto, unfolding(crate::specs::Reading::open_at))]
+#[tactic(auto, unfolding(crate::specs::Reading::open_at, crate::specs::Reading::behind_at))]
 fn open(text: &[char]) -> Result<(Token, &[char]), ParseFault>
     ensures { Gives (λ x. (sym_of_token x.0, x.1.now)) result (open_at text.now) }
 {
     match text {
         ['?', ':', rest @ ..] => Ok((Token::Open(Opener::Groups), rest)),
+        ['?', '>', rest @ ..] => Ok((Token::Open(Opener::Holds), rest)),
+        ['?', '=', rest @ ..] => Ok((look(true, false), rest)),
+        ['?', '!', rest @ ..] => Ok((look(true, true), rest)),
+        ['?', '<', '=', rest @ ..] => Ok((look(false, false), rest)),
+        ['?', '<', '!', rest @ ..] => Ok((look(false, true), rest)),
+        ['?', '#', rest @ ..] => comment(rest),
         ['?', ..] => Err(ParseFault::Unreadable),
         _ => Ok((Token::Open(Opener::Captures), text)),
     }
 }
 
-/// What follows a sign with these bounds.
+/// What follows a sign or a brace with these bounds: a `?` or a `+` sets the manner.
 #[tactic(auto, unfolding(crate::specs::Reading::times_at))]
-fn times(least: u32, greatest: Option<u32>, text: &[char]) -> Result<(Token, &[char]), ParseFault>
-    ensures { Gives (λ x. (sym_of_token x.0, x.1.now)) result (times_at least greatest text.now) }
+fn times(
+    least: u32,
+    greatest: Option<u32>,
+    question: Manner,
+    plus: Manner,
+    text: &[char],
+) -> Result<(Token, &[char]), ParseFault>
+    ensures { Gives (λ x. (sym_of_token x.0, x.1.now)) result (times_at least greatest question plus text.now) }
 {
-    match text {
-        ['?', rest @ ..] => Ok((
-            Token::Repeats {
-                least,
-                greatest,
-                greedy: false,
-            },
+    let (manner, rest) = match text {
+        ['?', rest @ ..] => (question, rest),
+        ['+', rest @ ..] => (plus, rest),
+        _ => (Manner::Greedy, text),
+    };
+    Ok((
+        Token::Repeats {
+            least,
+            greatest,
+            manner,
+        },
+        rest,
+    ))
+}
+
+/// What a `?` makes of bounds between braces.
+fn lazily(exact: bool) -> Manner
+    ensures { result ≡ lazily_exact exact }
+{
+    if exact {
+        Manner::Optional
+    } else {
+        Manner::Lazy
+    }
+}
+
+/// What follows a `{` that begins bounds.
+fn braces(text: &[char]) -> Result<(Token, &[char]), ParseFault>
+    ensures { Gives (λ x. (sym_of_token x.0, x.1.now)) result (braces_at (interval_at text.now)) }
+{
+    match interval(text) {
+        Some((found, rest)) => times(
+            found.least,
+            found.greatest,
+            lazily(found.exact),
+            Manner::Again,
             rest,
-        )),
-        ['+', ..] => Err(ParseFault::Unreadable),
-        _ => Ok((
-            Token::Repeats {
-                least,
-                greatest,
-                greedy: true,
-            },
-            text,
-        )),
+        ),
+        None => Err(ParseFault::Unreadable),
     }
 }
 
@@ -138,14 +196,30 @@ fn set_or_char(alloc: Global, options: Options, c: char) -> Result<Part, ParseFa
     }
 }
 
+/// The place that a letter stands for behind a backslash.
+#[tactic(auto, unfolding(crate::specs::Characters::place_letter))]
+fn place(c: char) -> Option<Position>
+    ensures { result ≡ place_letter c }
+{
+    match c {
+        'b' => Some(Position::Word),
+        'B' => Some(Position::NotWord),
+        'Z' => Some(Position::BeforeFinal),
+        'z' => Some(Position::TextEnd),
+        _ => None,
+    }
+}
+
 /// What a character means behind a backslash.
-#[tactic(auto, using(tm_onig_class::proofs::Trees::nodes), unfolding(crate::specs::Characters::escape_tree, tm_onig_class::specs::Widths::least_width))]
+#[tactic(auto, using(tm_onig_class::proofs::Trees::nodes), unfolding(crate::specs::Characters::escape_tree, crate::specs::Characters::is_later, tm_onig_class::specs::Widths::least_width))]
 fn escape_part(alloc: Global, options: Options, c: char) -> Result<Part, ParseFault>
     ensures { Gives built_of result (option_map leaf (escape_tree options c)) }
 {
+    if let Some(place) = place(c) {
+        return Ok(leaf(Pattern::Position(place), false));
+    }
     match c {
-        'b' => Ok(leaf(Pattern::Position(Position::Word), false)),
-        'B' => Ok(leaf(Pattern::Position(Position::NotWord), false)),
+        'k' | 'A' | 'G' => Err(ParseFault::Unreadable),
         _ => set_or_char(alloc, options, c),
     }
 }
@@ -178,16 +252,15 @@ fn brackets(alloc: Global, text: &[char]) -> Result<(Token, &[char]), ParseFault
     }
 }
 
-/// A quantifier's sign, or a character that stands alone, and what follows it. A `{` that begins
-/// bounds is neither.
+/// A quantifier, or a character that stands alone, and what follows it.
 fn sign_or(options: Options, c: char, text: &[char]) -> Result<(Token, &[char]), ParseFault>
     ensures { Gives (λ x. (sym_of_token x.0, x.1.now)) result (sign_or options (sign_bounds c) c text.now) }
 {
     match sign(c) {
-        Some((least, greatest)) => times(least, greatest, text),
+        Some((least, greatest)) => times(least, greatest, Manner::Lazy, Manner::Possessive, text),
         None => {
             if c == '{' && bounds(text) {
-                return Err(ParseFault::Unreadable);
+                return braces(text);
             }
             match single(options, c) {
                 Some(part) => Ok((Token::Means(part), text)),

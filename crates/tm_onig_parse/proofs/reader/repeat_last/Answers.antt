@@ -11,8 +11,8 @@ returns-in_default c = no_last _ c.args.row.now.items (omega (arith, c.in_defaul
 pub returns-in-Ok : goal.returns-in-Ok
 returns-in-Ok c =
     subst (λ (o : Option (List Built)). Steps c.push.result (map built_of c.push.new.parts.items) o)
-    (sym (last_changed (more_times c.args.least c.args.greatest c.args.greedy) _ _ c.in-Some.part c.in-Ok.whole c.in-Some.ensures.items c.in-Ok.ensures))
+    (sym (last_changed (more_times c.args.least c.args.greatest c.args.manner) _ _ c.in-Some.part c.in-Ok.whole c.in-Some.ensures.items c.in-Ok.ensures))
     c.push.ensures
 
 pub returns-in-Err : goal.returns-in-Err
-returns-in-Err c = last_fails c.in-Err.fault (more_times c.args.least c.args.greatest c.args.greedy) _ _ c.in-Some.part c.in-Some.ensures.items c.in-Err.ensures
+returns-in-Err c = last_fails c.in-Err.fault (more_times c.args.least c.args.greatest c.args.manner) _ _ c.in-Some.part c.in-Some.ensures.items c.in-Err.ensures
