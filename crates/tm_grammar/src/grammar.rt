@@ -1,9 +1,9 @@
 //! A grammar file as a raw tree, or why it is refused.
-ghost use Rattle.std.specs.Prelude.{◌≡◌, ◌≢◌, ◌↔◌, ℕ, List, codes, IfOk, None, Ok, Err, option_map};
+ghost use Rattle.std.specs.Prelude.{◌≡◌, ◌≢◌, ◌↔◌, ℕ, List, codes, IfOk, IfErr, None, Ok, Err, option_map};
 ghost use Rattle.serde_json.specs.Data.{Data};
 ghost use Rattle.serde_json.specs.View.{view};
 ghost use Rattle.tm_grammar.specs.File.{GrammarTree, grammar_tree, root_in, scope_of, grammar_of, value_in};
-ghost use Rattle.tm_grammar.specs.Answer.{IsTreeOf, IsFirstWrongOf, answer_from};
+ghost use Rattle.tm_grammar.specs.Answer.{IsTreeOf, IsCauseIn, answer_of, answer_from};
 ghost use Rattle.tm_grammar.specs.declared.fault.JsonFault.TheVariants as fault;
 
 use crate::fault::JsonFault;
@@ -103,13 +103,12 @@ fn grammar_from(alloc: Global, value: &Value) -> Result<RawGrammar, JsonFault>
 impl RawGrammar {
     /// Reads a whole file. What a known key holds is kept, each rule with its path.
     pub fn from_slice(alloc: Global, bytes: &[u8]) -> Result<RawGrammar, JsonFault>
-        // A tree comes exactly where the bytes have a value with nothing wrong in it, and it is that
-        // value's.
-        ensures tree { (tree : GrammarTree) → result ≢ Err fault.OutOfMemory → (result ≡ Ok tree) ↔ IsTreeOf tree bytes.now }
-        // `NotJson` comes exactly where the bytes have no value.
-        ensures not_json { result ≢ Err fault.OutOfMemory → (result ≡ Err fault.NotJson) ↔ (value_in bytes.now ≡ None) }
-        // `BadShape` comes exactly with the path of the first wrong value.
-        ensures bad_shape { (path : List ℕ) → result ≢ Err fault.OutOfMemory → (result ≡ Err (fault.BadShape path)) ↔ IsFirstWrongOf path bytes.now }
+        // A tree is that of the bytes' value, in which nothing is wrong.
+        ensures tree { IfOk result (λ tree. IsTreeOf tree bytes.now) }
+        // `NotJson` has no value for its cause, and `BadShape` the path of the first wrong one.
+        ensures cause { IfErr result (IsCauseIn bytes.now) }
+        // Where memory suffices, the answer is that of the definition: each comes where it has to.
+        ensures exact { result ≢ Err fault.OutOfMemory → result ≡ answer_of (value_in bytes.now) }
     {
         match value_of(alloc, bytes) {
             Ok(Some(value)) => grammar_from(alloc, &value),

@@ -1,3 +1,6 @@
+ghost use Rattle.std.specs.Prelude.{IfSome};
+ghost use Rattle.tm_grammar.specs.Answer.{IsFirstWrongOf};
+
 use crate::cases;
 use crate::fault::JsonFault;
 use crate::grammar::RawGrammar;
@@ -206,6 +209,16 @@ fn missed_answers(alloc: Global) -> Result<String, Fail> {
     Ok(missed)
 }
 
+/// The path of the first wrong value of a file, where it has one.
+fn wrong_path(alloc: Global, bytes: &[u8]) -> Option<Name>
+    ensures { IfSome result (λ path. IsFirstWrongOf path bytes.now) }
+{
+    match RawGrammar::from_slice(alloc, bytes) {
+        Err(JsonFault::BadShape(path)) => Some(path),
+        _ => None,
+    }
+}
+
 #[test]
 fn files_and_their_answers(rt: HostRuntime) -> Result<(), Fail> {
     let alloc = rt.alloc();
@@ -214,6 +227,7 @@ fn files_and_their_answers(rt: HostRuntime) -> Result<(), Fail> {
     }
     assert_eq!(rt; missed_answers(alloc)?.as_str(), "");
     assert_eq!(rt; missed_keys(alloc)?.as_str(), "");
+    assert!(rt; wrong_path(alloc, b"[]").is_some());
     Ok(())
 }
 
