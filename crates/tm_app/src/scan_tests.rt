@@ -194,23 +194,25 @@ fn printed(alloc: Global, tokens: &str) -> Result<String, Fail> {
     Ok(text)
 }
 
+/// The status of a scan, and what it writes.
+fn scanned(alloc: Global, grammar: &str, text: &str, out: &mut HonestSink) -> Result<u8, Fail> {
+    let mut files = files_of(alloc, [SETTINGS, grammar, text, ""], &[])?;
+    let mut err = HonestSink::new(Vec::new(alloc));
+    let words = list(alloc, &["scan", "s", "t"])?;
+    Ok(outcome::run(alloc, &words, &mut files, out, &mut err).code())
+}
+
 /// Each row, by a scan.
 #[test]
 fn grammars_give_tokens(rt: HostRuntime) -> Result<(), Fail> {
     let alloc = rt.alloc();
     for (patterns, text, tokens) in ROWS {
         let grammar = grammar_of(alloc, patterns)?;
-        let mut files = files_of(alloc, [SETTINGS, grammar.as_str(), text, ""], &[])?;
+        let want = printed(alloc, tokens)?;
         let mut out = HonestSink::new(Vec::new(alloc));
-        let mut err = HonestSink::new(Vec::new(alloc));
-        let words = list(alloc, &["scan", "s", "t"])?;
-        let status = outcome::run(alloc, &words, &mut files, &mut out, &mut err);
-        assert_eq!(rt; status.code(), 0, "{patterns}");
-        assert_eq!(rt;
-            out.bytes(),
-            printed(alloc, tokens)?.as_bytes(),
-            "{patterns}"
-        );
+        let code = scanned(alloc, grammar.as_str(), text, &mut out)?;
+        assert_eq!(rt; code, 0, "{patterns}");
+        assert_eq!(rt; out.bytes(), want.as_bytes(), "{patterns}");
     }
     Ok(())
 }
