@@ -10,7 +10,7 @@ use Rattle.tm_onig_parse.specs.declared.groups.Opener.TheVariants.{Captures, Gro
 use Rattle.tm_onig_parse.specs.declared.quantifiers.Manner.{Manner}
 use Rattle.tm_onig_parse.specs.declared.quantifiers.Manner.TheVariants.{Greedy, Lazy, Possessive, Optional, Again}
 use Rattle.tm_onig_parse.specs.Grammar.{Atom, Plain, Escaped, Class, Alts, First, Also, Row, Nothing, Then, Noted, Piece, Alone, Inside, Repeated, Behind, least_of, greatest_of, manner_of, count, groups, groups_row}
-use Rattle.tm_onig_parse.specs.Meaning.{Built, tree_in, any_takes, all_take, row_built, alts_built, enclosed, repeated, around, quantified, is_greedy, atom_built, rows, parts, piece_built, built, meaning}
+use Rattle.tm_onig_parse.specs.Meaning.{Built, tree_in, any_takes, all_take, row_built, alts_built, enclosed, repeated, around, is_greedy, atom_built, rows, parts, piece_built, built, meaning}
 
 -- its mark says that the tree is wide
 abbrev Tied : Built → Type 0

@@ -10,7 +10,7 @@ use Rattle.tm_onig_parse.specs.declared.quantifiers.Manner.{Manner}
 use Rattle.tm_onig_parse.specs.declared.quantifiers.Manner.TheVariants.{Greedy, Lazy, Possessive, Optional, Again}
 use Rattle.tm_onig_parse.specs.Characters.{single_tree, escape_tree}
 use Rattle.tm_onig_parse.specs.Classes.{Item, begins, class_text, IsClass}
-use Rattle.tm_onig_parse.specs.Intervals.{Bounds, Exactly, Between, bounds_text, IsBounds, NoBounds, least_in, greatest_in, AreLimited}
+use Rattle.tm_onig_parse.specs.Intervals.{Bounds, Exactly, bounds_text, IsBounds, NoBounds, least_in, greatest_in, AreLimited}
 
 -- What matches by itself: a character or a sign with the tree that it means, the same behind a
 -- backslash, or a class, negated or not.
