@@ -6,11 +6,12 @@ use Rattle.std.proofs.lemmas.Bool.Decides.{nat_tests}
 use Rattle.tm_onig_class.specs.Tree.{trees}
 use Rattle.tm_onig_class.specs.Widths.{least_width, widths_sum, widths_least}
 use Rattle.tm_onig_parse.specs.declared.groups.Opener.{Opener}
-use Rattle.tm_onig_parse.specs.declared.groups.Opener.TheVariants.{Captures, Groups, Holds, Looks}
+use Rattle.tm_onig_parse.specs.declared.groups.Opener.TheVariants.{Captures, Groups, Sets, Keeps, Looks}
 use Rattle.tm_onig_parse.specs.declared.quantifiers.Manner.{Manner}
 use Rattle.tm_onig_parse.specs.declared.quantifiers.Manner.TheVariants.{Greedy, Lazy, Possessive, Optional, Again}
-use Rattle.tm_onig_parse.specs.Grammar.{Atom, Plain, Escaped, Class, Alts, First, Also, Row, Nothing, Then, Noted, Piece, Alone, Inside, Repeated, Behind, least_of, greatest_of, manner_of, count, groups, groups_row}
-use Rattle.tm_onig_parse.specs.Meaning.{Built, tree_in, any_takes, all_take, row_built, alts_built, enclosed, repeated, around, is_greedy, atom_built, rows, parts, piece_built, built, meaning}
+use Rattle.tm_onig_parse.specs.Things.{Atom, Plain, Escaped, Class, Refers, opener_of, count, least_of, greatest_of, manner_of}
+use Rattle.tm_onig_parse.specs.Grammar.{Body, Simply, Under, Alts, First, Also, Row, Nothing, Then, Noted, Piece, Alone, Inside, Repeated, Behind, groups_alts, groups_row}
+use Rattle.tm_onig_parse.specs.Meaning.{Built, tree_in, any_takes, all_take, row_built, alts_built, enclosed, repeated, around, is_greedy, atom_built, bodies, rows, parts, piece_built, built, meaning}
 
 -- its mark says that the tree is wide
 abbrev Tied : Built → Type 0
@@ -80,7 +81,8 @@ enclosed_tied : (k : Opener) (n : ℕ) (b : Built) → Tied b → Tied (enclosed
 unfolding least_width
 enclosed_tied Captures n b is = is
 enclosed_tied Groups n b is = is
-enclosed_tied Holds n b is = is
+enclosed_tied Sets n b is = is
+enclosed_tied Keeps n b is = is
 enclosed_tied (Looks ahead negative) n b is = refl
 
 -- a repetition
@@ -103,29 +105,38 @@ unfolding least_width
 atom_tied (Plain c tree) = refl
 atom_tied (Escaped c tree) = refl
 atom_tied (Class negated is) = refl
+atom_tied (Refers r tree) = refl
 
 mutual
-  rows_tied : (a : Alts) (n : ℕ) → AreTied (rows a n)
-  rows_tied (First row) n = (row_tied (parts row n) (parts_tied row n), tt)
-  rows_tied (Also alts row) n = tied_append (rows alts n) _ (rows_tied alts n) (row_tied (parts row (n + groups alts)) (parts_tied row (n + groups alts)), tt)
+  bodies_tied : (b : Body) (n : ℕ) → AreTied (bodies b n)
+  bodies_tied (Simply alts) n = rows_tied alts [] n tt
+  bodies_tied (Under alts letters after body) n =
+      let m = n + groups_alts alts in
+      rows_tied alts _ n (enclosed_tied Sets m (alts_built (bodies body m)) (alts_tied (bodies body m) (bodies_tied body m)), tt)
+
+  rows_tied : (a : Alts) (more : List Built) (n : ℕ) → AreTied more → AreTied (rows a more n)
+  rows_tied (First row) more n are = (row_tied (parts row n ++ more) (tied_append (parts row n) more (parts_tied row n) are), tt)
+  rows_tied (Also alts row) more n are =
+      let m = n + groups_alts alts in
+      tied_append (rows alts [] n) _ (rows_tied alts [] n tt) (row_tied (parts row m ++ more) (tied_append (parts row m) more (parts_tied row m) are), tt)
 
   parts_tied : (r : Row) (n : ℕ) → AreTied (parts r n)
   parts_tied Nothing n = tt
-  parts_tied (Noted row text) n = parts_tied row n
+  parts_tied (Noted row s) n = parts_tied row n
   parts_tied (Then row piece) n = tied_append (parts row n) _ (parts_tied row n) (piece_tied piece (n + groups_row row), tt)
 
   piece_tied : (p : Piece) (n : ℕ) → Tied (piece_built p n)
   piece_tied (Alone a) n = atom_tied a
-  piece_tied (Behind piece text) n = piece_tied piece n
-  piece_tied (Inside k alts) n = enclosed_tied k (n + count k) (alts_built (rows alts (n + count k))) (alts_tied (rows alts (n + count k)) (rows_tied alts (n + count k)))
+  piece_tied (Behind piece s) n = piece_tied piece n
+  piece_tied (Inside k body) n = let m = n + count (opener_of k) in enclosed_tied (opener_of k) m (alts_built (bodies body m)) (alts_tied (bodies body m) (bodies_tied body m))
   piece_tied (Repeated piece amount mark) n =
       let manner = manner_of amount mark in
       around_tied manner _ (repeated_tied (least_of amount) (greatest_of amount) (is_greedy manner) (piece_built piece n) (piece_tied piece n))
 
 -- the whole takes a character where it is wide enough
-pub takes_wide : (alts : Alts) → 1 ≤ least_width (meaning alts) → (built alts).takes ≡ true
-takes_wide alts wide = alts_tied (rows alts 0) (rows_tied alts 0) ∙ lt-ltb 0 (least_width (meaning alts)) (omega arith)
+pub takes_wide : (body : Body) → 1 ≤ least_width (meaning body) → (built body).takes ≡ true
+takes_wide body wide = alts_tied (bodies body 0) (bodies_tied body 0) ∙ lt-ltb 0 (least_width (meaning body)) (omega arith)
 
 -- and only there
-pub wide_takes : (alts : Alts) → (built alts).takes ≡ true → 1 ≤ least_width (meaning alts)
-wide_takes alts takes = omega (arith, ltb-true 0 (least_width (meaning alts)) (sym (alts_tied (rows alts 0) (rows_tied alts 0)) ∙ takes))
+pub wide_takes : (body : Body) → (built body).takes ≡ true → 1 ≤ least_width (meaning body)
+wide_takes body takes = omega (arith, ltb-true 0 (least_width (meaning body)) (sym (alts_tied (bodies body 0) (bodies_tied body 0)) ∙ takes))

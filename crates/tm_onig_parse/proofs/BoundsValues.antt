@@ -11,11 +11,11 @@ use Rattle.tm_onig_parse.specs.Intervals.{Bounds, Exactly, Between, bounds_text,
 use Rattle.tm_onig_parse.specs.Reading.{limited, with_digit, number_at, ordered, second_at, first_at, interval_at}
 
 -- an ASCII digit has a value below 10
-digit_below : (c : ℕ) → is_ascii_digit c ≡ true → nat_lt (digit_value c) 10 ≡ true
+pub digit_below : (c : ℕ) → is_ascii_digit c ≡ true → nat_lt (digit_value c) 10 ≡ true
 digit_below c e = grind (arith, nat_tests)
 
 -- a number with further digits
-abbrev longer : Option ℕ → List ℕ → Option ℕ
+abbrev pub longer : Option ℕ → List ℕ → Option ℕ
 longer n [] = n
 longer n (d ∷ ds) = longer (with_digit n (digit_value d)) ds
 
@@ -43,11 +43,11 @@ above : (n : ℕ) → 100000 < n → limited n ≡ None
 above n h = let no : nat_le n 100000 ≡ false = grind (arith, nat_tests) in rw no refl
 
 -- what is within it is one
-below : (n : ℕ) → n ≤ 100000 → limited n ≡ Some n
+pub below : (n : ℕ) → n ≤ 100000 → limited n ≡ Some n
 below n h = rw (le-leb n 100000 h) refl
 
 -- a limited number with further digits is the whole number, limited
-longer-limited : (ds : List ℕ) (n : ℕ) → longer (limited n) ds ≡ limited (digits_value_after 10 n ds)
+pub longer-limited : (ds : List ℕ) (n : ℕ) → longer (limited n) ds ≡ limited (digits_value_after 10 n ds)
 longer-limited [] n = refl
 longer-limited (d ∷ ds) n = by_test (nat_le n 100000) refl (longer-limited ds (n * 10 + digit_value d))
   where
@@ -115,7 +115,7 @@ interval_again (Between n (d ∷ m)) more is low =
     ∙ (rw (le-leb v w low.0) refl)
 
 -- a number that was read is within the limit
-limited_found : {A : Type 0} (v : ℕ) (f : Option ℕ → Option A) (x : A) → f None ≡ None → f (limited v) ≡ Some x → (v ≤ 100000) × (f (Some v) ≡ Some x)
+pub limited_found : {A : Type 0} (v : ℕ) (f : Option ℕ → Option A) (x : A) → f None ≡ None → f (limited v) ≡ Some x → (v ≤ 100000) × (f (Some v) ≡ Some x)
 limited_found v f x none e = by_test (nat_le v 100000) refl e
   where
     by_test : (is : Bool) → nat_le v 100000 ≡ is → f (if is then Some v else None) ≡ Some x → (v ≤ 100000) × (f (Some v) ≡ Some x)

@@ -2,7 +2,7 @@
 use Rattle.std.proofs.Common.{◌≡◌, ℕ, ◌+◌, ◌≤◌, max, Bool, true, false, cond, List, [], ◌∷◌, ◌++◌, Option, arith}
 use Rattle.std.proofs.lemmas.Bool.Decides.{nat_tests}
 use Rattle.tm_onig_parse.specs.declared.groups.Opener.{Opener}
-use Rattle.tm_onig_parse.specs.declared.groups.Opener.TheVariants.{Captures, Groups, Holds, Looks}
+use Rattle.tm_onig_parse.specs.declared.groups.Opener.TheVariants.{Captures, Groups, Sets, Keeps, Looks}
 use Rattle.tm_onig_parse.specs.declared.quantifiers.Manner.{Manner}
 use Rattle.tm_onig_parse.specs.declared.quantifiers.Manner.TheVariants.{Greedy, Lazy, Possessive, Optional, Again}
 use Rattle.tm_onig_parse.specs.Meaning.{Built, highest, row_built, alts_built, enclosed, repeated, is_greedy, around, quantified}
@@ -40,6 +40,11 @@ pub front_low : (xs ys : List Built) → highest (xs ++ ys) ≤ 200 → highest 
 front_low [] ys h = omega arith
 front_low (x ∷ xs) ys h = max_both x.height (highest xs) (max_left x.height (highest (xs ++ ys)) h) (front_low xs ys (max_right x.height (highest (xs ++ ys)) h))
 
+-- those behind
+pub back_low : (xs ys : List Built) → highest (xs ++ ys) ≤ 200 → highest ys ≤ 200
+back_low [] ys h = h
+back_low (x ∷ xs) ys h = back_low xs ys (max_right x.height (highest (xs ++ ys)) h)
+
 -- the last
 pub last_low : (xs : List Built) (y : Built) → highest (xs ++ y ∷ []) ≤ 200 → y.height ≤ 200
 last_low [] y h = max_left y.height 0 h
@@ -49,7 +54,8 @@ last_low (x ∷ xs) y h = last_low xs y (max_right x.height (highest (xs ++ y �
 pub enclosed_low : (k : Opener) (n : ℕ) (b : Built) → (enclosed k n b).height ≤ 200 → b.height ≤ 200
 enclosed_low Captures n b h = omega arith
 enclosed_low Groups n b h = omega arith
-enclosed_low Holds n b h = omega arith
+enclosed_low Sets n b h = omega arith
+enclosed_low Keeps n b h = omega arith
 enclosed_low (Looks ahead negative) n b h = omega arith
 
 -- one more or none

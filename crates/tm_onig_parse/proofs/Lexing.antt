@@ -1,33 +1,28 @@
 -- One thing is read exactly as it is spelled.
-use Rattle.std.proofs.Common.{◌≡◌, ℕ, ◌<◌, Bool, true, false, List, [], ◌∷◌, ◌++◌, ◌&&◌, ◌||◌, map, length, Option, Some, None, refl, sym, ap, ◌∙◌, subst, inl, inr, arith, length-append, append_assoc}
+use Rattle.std.proofs.Common.{◌≡◌, ℕ, ◌<◌, ◌≤◌, Bool, true, false, List, [], ◌∷◌, ◌++◌, ◌&&◌, ◌||◌, map, length, Option, Some, None, option_map, refl, sym, ap, ◌∙◌, subst, inl, inr, arith, length-append, append_assoc}
 use Rattle.std.specs.Prelude.{◌==◌}
 use Rattle.std.specs.List.{list_any}
 use Rattle.std.proofs.lemmas.Bool.{cases_Bool, eqb-true, eq-eqb, and_parts}
 use Rattle.tm_onig_class.specs.Tree.{Tree}
 use Rattle.tm_onig_parse.specs.declared.options.Options.{Options}
-use Rattle.tm_onig_parse.specs.declared.groups.Opener.TheVariants.{Captures, Groups, Holds, Looks}
 use Rattle.tm_onig_parse.specs.declared.classes.Member.{Member}
 use Rattle.tm_onig_parse.specs.declared.quantifiers.Manner.TheVariants.{Lazy, Possessive, Again}
 use Rattle.tm_onig_parse.specs.Characters.{single_tree, escape_tree, is_special}
 use Rattle.tm_onig_parse.specs.Classes.{begins, Item, item_text, member_of, items_text, AreItems, class_text, IsClass}
 use Rattle.tm_onig_parse.specs.Intervals.{Bounds, bounds_text, IsBounds, NoBounds, least_in, greatest_in}
-use Rattle.tm_onig_parse.specs.Grammar.{Atom, Plain, Escaped, Class, atom_text, IsAtom, sign_bounds, Amount, Sign, Braces, amount_text, IsAmount, least_of, greatest_of, Mark, mark_text, EndsMark, with_question, with_plus, manner_of, Tok, Single, Opening, Closing, Bar, Times, Comment, text_of, IsTok}
+use Rattle.tm_onig_parse.specs.Names.{Names, reference_text, key_of, meant_in}
+use Rattle.tm_onig_parse.specs.Things.{is_blank, skips, begins_reference, back_tree, Atom, Plain, Escaped, Class, Refers, atom_text, IsAtom, Opening, Capture, Named, Group, Keep, Look, opening_text, sign_bounds, Amount, Sign, Braces, amount_text, IsAmount, least_of, greatest_of, Mark, mark_text, EndsMark, with_question, with_plus, manner_of, Skip, Comment, Blank, Remark, skip_text, ends_line, IsSkip, Tok, Single, Opens, Setting, Closing, Bar, Times, Skipped, text_of, IsTok}
 use Rattle.tm_onig_parse.specs.Meaning.{atom_built, class_built}
 use Rattle.tm_onig_parse.specs.ClassReading.{items_on, signed, class_at}
-use Rattle.tm_onig_parse.specs.Reading.{Sym, Means, Open, Close, Or, Repeats, Skips, Found, bounds_at, open_at, behind_at, comment_at, times_at, interval_at, braces_at, means, escape_at, means_class, sign_or, token_at}
+use Rattle.tm_onig_parse.specs.Reading.{Sym, Means, Repeats, Skips, Found, bounds_at, comment_at, open_at, groups_at, times_at, interval_at, braces_at, means, refers, reference_at, escape_at, means_class, line_end, bounds_or, sign_or, token_at}
 use Rattle.tm_onig_parse.proofs.ClassExact.{chosen, bind_ok, differs, items_found, items_again}
 use Rattle.tm_onig_parse.proofs.BoundsExact.{bounds_again, bounds_found, no_bounds, lacks_bounds}
 use Rattle.tm_onig_parse.proofs.BoundsValues.{Interval, interval_again, interval_found}
 use Rattle.tm_onig_parse.proofs.Marks.{mark_again, mark_found, question_same}
-
--- what is left of a thing once it is read
-abbrev pub sym_of : Tok → Sym
-sym_of (Single a) = Means (atom_built a)
-sym_of (Opening k) = Open k
-sym_of Closing = Close
-sym_of Bar = Or
-sym_of (Times amount mark) = Repeats (least_of amount) (greatest_of amount) (manner_of amount mark)
-sym_of (Comment text) = Skips
+use Rattle.tm_onig_parse.proofs.Blank.{blank_differs, no_blanks}
+use Rattle.tm_onig_parse.proofs.OneRead.{sym_of, Reads, reads_by, reads_as}
+use Rattle.tm_onig_parse.proofs.ReferencesExact.{escape_again, Referred, reference_found}
+use Rattle.tm_onig_parse.proofs.OpeningsExact.{comment_again, behind_bracket, opening_again, setting_again, open_found, or_parts}
 
 -- The character begins nothing of its own.
 record Ordinary (c : ℕ) : Type 0 where
@@ -70,15 +65,9 @@ sign_ordinary c bounds e = record {
 }
 
 -- an ordinary character goes to the last case
-ordinary_token : (o : Options) (c : ℕ) (t : List ℕ) → Ordinary c → token_at o (c ∷ t) ≡ sign_or o (sign_bounds c) c t
+ordinary_token : (names : Option Names) (o : Options) (c : ℕ) (t : List ℕ) → Ordinary c → token_at names o (c ∷ t) ≡ sign_or o (sign_bounds c) c t
 unfolding token_at
-ordinary_token o c t p = rw (p.is_40, p.is_41, p.is_124, p.is_92, p.is_91) refl
-
--- a `(` that captures
-open_again : (rest : List ℕ) → begins 63 rest ≡ false → open_at rest ≡ Some (Open Captures, rest)
-unfolding open_at
-open_again [] e = refl
-open_again (c ∷ t) e = rw e refl
+ordinary_token names o c t p = rw (p.is_40, p.is_41, p.is_124, p.is_92, p.is_91) refl
 
 -- a `{` that begins no bounds is a character
 brace_again : (c : ℕ) (rest : List ℕ) → (c ≡ 123 → NoBounds rest) → ((c == 123) && bounds_at rest) ≡ false
@@ -126,154 +115,145 @@ class_again false is rest are =
     ∙ ap (signed false) (items_read is rest are.1)
 
 -- a `[` begins a class
-class_token : (o : Options) (negated : Bool) (is : List Item) (rest : List ℕ) → token_at o (class_text negated is ++ rest) ≡ means_class (class_at (inside negated is ++ rest))
+class_token : (names : Option Names) (o : Options) (negated : Bool) (is : List Item) (rest : List ℕ) → token_at names o (class_text negated is ++ rest) ≡ means_class (class_at (inside negated is ++ rest))
 unfolding token_at
-class_token o true is rest = refl
-class_token o false is rest = refl
+class_token names o true is rest = refl
+class_token names o false is rest = refl
+
+-- what is not skipped is neither white space nor a `#` that begins a remark
+not_skipped : (o : Options) (c : ℕ) → skips o c ≡ false → ((o.extended && is_blank c) ≡ false) × ((o.extended && (c == 35)) ≡ false)
+not_skipped o c e = parts o.extended (is_blank c) (c == 35) e
+  where
+    parts : (x b h : Bool) → (x && (b || h)) ≡ false → ((x && b) ≡ false) × ((x && h) ≡ false)
+    parts false b h e = (refl, refl)
+    parts true false h e = (refl, e)
+    parts true true h e = absurd cc
+
+-- what is neither is not skipped
+is_kept : (o : Options) (c : ℕ) → (o.extended && is_blank c) ≡ false → (o.extended && (c == 35)) ≡ false → skips o c ≡ false
+is_kept o c e f = parts o.extended (is_blank c) (c == 35) e f
+  where
+    parts : (x b h : Bool) → (x && b) ≡ false → (x && h) ≡ false → (x && (b || h)) ≡ false
+    parts false b h e f = refl
+    parts true false h e f = f
+    parts true true h e f = absurd cc
+
+-- a character that is not skipped
+bounds_or_char : (o : Options) (c : ℕ) (t : List ℕ) → skips o c ≡ false → sign_or o None c t ≡ bounds_or o c t
+bounds_or_char o c t e = let p = not_skipped o c e in rw (p.0, p.1) refl
+
+-- a `{` is not skipped
+brace_kept : (o : Options) → skips o 123 ≡ false
+brace_kept o = is_kept o 123 (both o.extended (is_blank 123) no_blanks.is_123) (both o.extended (123 == 35) refl)
+  where
+    both : (x b : Bool) → b ≡ false → (x && b) ≡ false
+    both true b e = e
+    both false b e = refl
+
+-- what is ordinary stands alone
+plain_again : (names : Option Names) (o : Options) (c : ℕ) (tree : Tree) (rest : List ℕ) → IsAtom names (Plain c tree) o rest → token_at names o (c ∷ rest) ≡ Some (Means (atom_built (Plain c tree)), rest)
+plain_again names o c tree rest is =
+    ordinary_token names o c rest (single_ordinary o c tree is.0)
+    ∙ ap (λ b. sign_or o b c rest) (single_no_sign o c tree is.0)
+    ∙ bounds_or_char o c rest is.1
+    ∙ (rw (brace_again c rest is.2, is.0) refl)
+
+-- an escape that is written is read
+escaped_again : (names : Option Names) (o : Options) (c : ℕ) (tree : Tree) (rest : List ℕ) → IsAtom names (Escaped c tree) o rest → escape_at names o (c ∷ rest) ≡ Some (Means (atom_built (Escaped c tree)), rest)
+unfolding escape_at
+escaped_again names o c tree rest is = rw (is.0, is.1) refl
 
 -- an atom that is written is read
-atom_again : (a : Atom) (o : Options) (rest : List ℕ) → IsAtom a o rest → token_at o (atom_text a ++ rest) ≡ Some (Means (atom_built a), rest)
-unfolding token_at escape_at
-atom_again (Plain c tree) o rest is =
-    ordinary_token o c rest (single_ordinary o c tree is.0) ∙ (rw (single_no_sign o c tree is.0, brace_again c rest is.1, is.0) refl)
-atom_again (Escaped c tree) o rest is = rw is refl
-atom_again (Class negated is) o rest are = class_token o negated is rest ∙ ap means_class (class_again negated is rest are)
+atom_again : (names : Option Names) (a : Atom) (o : Options) (rest : List ℕ) → IsAtom names a o rest → token_at names o (atom_text a ++ rest) ≡ Some (Means (atom_built a), rest)
+unfolding token_at
+atom_again names (Plain c tree) o rest is = plain_again names o c tree rest is
+atom_again names (Escaped c tree) o rest is = escaped_again names o c tree rest is
+atom_again names (Class negated is) o rest are = class_token names o negated is rest ∙ ap means_class (class_again negated is rest are)
+atom_again names (Refers r tree) o rest is = escape_again names r o rest is.0 ∙ ap (λ t. means t rest) is.1
+
+-- a `{` that begins bounds
+brace_token : (names : Option Names) (o : Options) (t : List ℕ) → bounds_at t ≡ true → token_at names o (123 ∷ t) ≡ braces_at (interval_at t)
+unfolding token_at sign_bounds
+brace_token names o t some = bounds_or_char o 123 t (brace_kept o) ∙ (rw some refl)
 
 -- a quantifier that is written is read
-times_again : (a : Amount) (mark : Mark) (o : Options) (rest : List ℕ) → IsAmount a → EndsMark mark rest →
-    token_at o ((amount_text a ++ mark_text mark) ++ rest) ≡ Some (Repeats (least_of a) (greatest_of a) (manner_of a mark), rest)
-unfolding token_at sign_bounds
-times_again (Sign sign least greatest) mark o rest is ends =
-    ordinary_token o sign (mark_text mark ++ rest) (sign_ordinary sign _ is) ∙ (rw is (mark_again least greatest Lazy Possessive mark rest ends))
-times_again (Braces b) mark o rest is ends =
+times_again : (names : Option Names) (a : Amount) (mark : Mark) (o : Options) (rest : List ℕ) → IsAmount a → EndsMark mark rest →
+    token_at names o ((amount_text a ++ mark_text mark) ++ rest) ≡ Some (Repeats (least_of a) (greatest_of a) (manner_of a mark), rest)
+times_again names (Sign sign least greatest) mark o rest is ends =
+    ordinary_token names o sign (mark_text mark ++ rest) (sign_ordinary sign _ is) ∙ (rw is (mark_again least greatest Lazy Possessive mark rest ends))
+times_again names (Braces b) mark o rest is ends =
     let more = mark_text mark ++ rest in
-    ap (λ u. token_at o (123 ∷ u)) (append_assoc (bounds_text b) (mark_text mark) rest)
-    ∙ (rw (bounds_again b more is.0, interval_again b more is.0 is.1, question_same b) (mark_again (least_in b) (greatest_in b) (with_question (Braces b)) Again mark rest ends))
+    ap (λ u. token_at names o (123 ∷ u)) (append_assoc (bounds_text b) (mark_text mark) rest)
+    ∙ brace_token names o (bounds_text b ++ more) (bounds_again b more is.0)
+    ∙ (rw (interval_again b more is.0 is.1, question_same b) (mark_again (least_in b) (greatest_in b) (with_question (Braces b)) Again mark rest ends))
 
--- a comment that is written is read
-comment_again : (text rest : List ℕ) → list_any (λ c. c == 41) text ≡ false → comment_at (text ++ 41 ∷ rest) ≡ Some (Skips, rest)
-unfolding comment_at
-comment_again [] rest none = refl
-comment_again (c ∷ text) rest none = let parts = or_parts (c == 41) (list_any (λ c. c == 41) text) none in rw parts.0 (comment_again text rest parts.1)
-  where
-    or_parts : (a b : Bool) → (a || b) ≡ false → (a ≡ false) × (b ≡ false)
-    or_parts true b e = absurd cc
-    or_parts false b e = (refl, e)
+-- the end of the line behind what has none
+line_end_again : (text rest : List ℕ) → list_any (λ c. c == 10) text ≡ false → ends_line rest ≡ true → line_end (text ++ rest) ≡ rest
+unfolding line_end
+line_end_again [] [] none ends = refl
+line_end_again [] (c ∷ t) none ends = rw ends refl
+line_end_again (c ∷ text) rest none ends = let parts = or_parts (c == 10) (list_any (λ c. c == 10) text) none in rw parts.0 (line_end_again text rest parts.1 ends)
+
+-- white space is ordinary
+blank_ordinary : (c : ℕ) → is_blank c ≡ true → Ordinary c
+blank_ordinary c is = record {
+  is_40 = blank_differs c 40 is no_blanks.is_40;
+  is_41 = blank_differs c 41 is no_blanks.is_41;
+  is_124 = blank_differs c 124 is no_blanks.is_124;
+  is_92 = blank_differs c 92 is no_blanks.is_92;
+  is_91 = blank_differs c 91 is no_blanks.is_91;
+}
+
+-- and no sign
+blank_no_sign : (c : ℕ) → is_blank c ≡ true → sign_bounds c ≡ None
+blank_no_sign c is = no_sign c (blank_differs c 63 is no_blanks.is_63) (blank_differs c 42 is no_blanks.is_42) (blank_differs c 43 is no_blanks.is_43)
+
+-- white space that is written is read
+blank_again : (names : Option Names) (c : ℕ) (o : Options) (rest : List ℕ) → (o.extended && is_blank c) ≡ true → token_at names o (c ∷ rest) ≡ Some (Skips, rest)
+blank_again names c o rest is =
+    let blank = (and_parts o.extended (is_blank c) is).1 in
+    ordinary_token names o c rest (blank_ordinary c blank) ∙ ap (λ b. sign_or o b c rest) (blank_no_sign c blank) ∙ (rw is refl)
+
+-- a remark that is written is read
+remark_again : (names : Option Names) (text : List ℕ) (o : Options) (rest : List ℕ) → IsSkip (Remark text) o rest → token_at names o (35 ∷ (text ++ rest)) ≡ Some (Skips, rest)
+unfolding token_at sign_bounds
+remark_again names text o rest is = rw (is.0, no_blanks.is_35, line_end_again text rest is.1 is.2) refl
+
+-- What is skipped is read.
+skip_again : (names : Option Names) (s : Skip) (o : Options) (rest : List ℕ) → IsSkip s o rest → token_at names o (skip_text s ++ rest) ≡ Some (Skips, rest)
+unfolding token_at open_at groups_at
+skip_again names (Comment text) o rest is = ap comment_at (append_assoc text (41 ∷ []) rest) ∙ comment_again text rest is
+skip_again names (Blank c) o rest is = blank_again names c o rest is
+skip_again names (Remark text) o rest is = remark_again names text o rest is
+
+-- an opening begins with its bracket
+bracket_token : (names : Option Names) (k : Opening) (o : Options) (rest : List ℕ) → token_at names o (opening_text k ++ rest) ≡ open_at o (behind_bracket (opening_text k ++ rest))
+unfolding token_at
+bracket_token names Capture o rest = refl
+bracket_token names (Named true name) o rest = refl
+bracket_token names (Named false name) o rest = refl
+bracket_token names (Group letters after) o rest = refl
+bracket_token names Keep o rest = refl
+bracket_token names (Look true false) o rest = refl
+bracket_token names (Look true true) o rest = refl
+bracket_token names (Look false false) o rest = refl
+bracket_token names (Look false true) o rest = refl
 
 -- A thing that is written is read.
-pub token_again : (k : Tok) (o : Options) (rest : List ℕ) → IsTok k o rest → token_at o (text_of k ++ rest) ≡ Some (sym_of k, rest)
-unfolding token_at open_at behind_at times_at
-token_again (Single a) o rest is = atom_again a o rest is
-token_again (Opening Captures) o rest is = open_again rest is
-token_again (Opening Groups) o rest is = refl
-token_again (Opening Holds) o rest is = refl
-token_again (Opening (Looks true false)) o rest is = refl
-token_again (Opening (Looks true true)) o rest is = refl
-token_again (Opening (Looks false false)) o rest is = refl
-token_again (Opening (Looks false true)) o rest is = refl
-token_again Closing o rest is = refl
-token_again Bar o rest is = refl
-token_again (Times amount mark) o rest is = times_again amount mark o rest is.0 is.1
-token_again (Comment text) o rest is = ap comment_at (append_assoc text (41 ∷ []) rest) ∙ comment_again text rest is
-
--- What was read is spelled so.
-pub record Reads (o : Options) (t : List ℕ) (y : Sym) (rest : List ℕ) : Type 0 where
-  pub tok : Tok
-  pub whole : t ≡ text_of tok ++ rest
-  pub is : IsTok tok o rest
-  pub means : y ≡ sym_of tok
-
--- one pair in both
-same_pair : (p q : Sym × List ℕ) → Some p ≡ Some q → p ≡ q
-same_pair p q e = cc
-
--- the thing that was read, where both pairs are one
-reads_by : (k : Tok) (o : Options) (r : List ℕ) (y : Sym) (rest : List ℕ) → IsTok k o r → ◌≡◌ {A = Found} (Some (sym_of k, r)) (Some (y, rest)) → Reads o (text_of k ++ r) y rest
-reads_by k o r y rest is e =
-    let p = same_pair (sym_of k, r) (y, rest) e in
-    subst (λ (p : Sym × List ℕ). Reads o (text_of k ++ r) p.0 p.1) p (record { tok = k; whole = refl; is = is; means = refl })
-
--- a `(?<` that is read
-behind_found : (o : Options) (t : List ℕ) (y : Sym) (rest : List ℕ) → behind_at t ≡ Some (y, rest) → Reads o (40 ∷ 63 ∷ 60 ∷ t) y rest
-unfolding behind_at
-behind_found o [] y rest e = absurd cc
-behind_found o (c ∷ t) y rest e = elim (chosen (c == 61) _ _ _ e) [
-  | inl h ↦ rw (eqb-true c 61 h.0) (reads_by (Opening (Looks false false)) o t y rest tt h.1)
-  | inr h ↦ elim (chosen (c == 33) _ _ _ h.1) [
-    | inl g ↦ rw (eqb-true c 33 g.0) (reads_by (Opening (Looks false true)) o t y rest tt g.1)
-    | inr g ↦ absurd cc
-  ]
-]
-
--- The comment that was read.
-record Commented (t : List ℕ) (y : Sym) (rest : List ℕ) : Type 0 where
-  text : List ℕ
-  whole : t ≡ text ++ 41 ∷ rest
-  none : list_any (λ c. c == 41) text ≡ false
-  means : y ≡ Skips
-
--- the end of a comment, where both pairs are one
-comment_by : (t : List ℕ) (y : Sym) (rest : List ℕ) → ◌≡◌ {A = Found} (Some (Skips, t)) (Some (y, rest)) → Commented (41 ∷ t) y rest
-comment_by t y rest e =
-    let p = same_pair (Skips, t) (y, rest) e in
-    subst (λ (p : Sym × List ℕ). Commented (41 ∷ t) p.0 p.1) p (record { text = []; whole = refl; none = refl; means = refl })
-
--- one character more
-comment_more : (c : ℕ) (t : List ℕ) (y : Sym) (rest : List ℕ) → (c == 41) ≡ false → Commented t y rest → Commented (c ∷ t) y rest
-comment_more c t y rest other m = record { text = c ∷ m.text; whole = ap (λ u. c ∷ u) m.whole; none = rw other m.none; means = m.means }
-
--- a comment that is read is written
-comment_found : (t : List ℕ) (y : Sym) (rest : List ℕ) → comment_at t ≡ Some (y, rest) → Commented t y rest
-unfolding comment_at
-comment_found [] y rest e = absurd cc
-comment_found (c ∷ t) y rest e = elim (chosen (c == 41) _ _ _ e) [
-  | inl h ↦ rw (eqb-true c 41 h.0) (comment_by t y rest h.1)
-  | inr h ↦ comment_more c t y rest h.0 (comment_found t y rest h.1)
-]
-
--- a `(?#` that is read
-note_found : (o : Options) (t : List ℕ) (y : Sym) (rest : List ℕ) → comment_at t ≡ Some (y, rest) → Reads o (40 ∷ 63 ∷ 35 ∷ t) y rest
-note_found o t y rest e =
-    let m = comment_found t y rest e in
-    record { tok = Comment m.text; whole = ap (λ u. 40 ∷ 63 ∷ 35 ∷ u) (m.whole ∙ sym (append_assoc m.text (41 ∷ []) rest)); is = m.none; means = m.means }
-
--- a `(?` that is read
-groups_found : (o : Options) (t : List ℕ) (y : Sym) (rest : List ℕ) → open_at (63 ∷ t) ≡ Some (y, rest) → Reads o (40 ∷ 63 ∷ t) y rest
-unfolding open_at
-groups_found o [] y rest e = absurd cc
-groups_found o (c ∷ t) y rest e = elim (chosen (c == 58) _ _ _ e) [
-  | inl h ↦ rw (eqb-true c 58 h.0) (reads_by (Opening Groups) o t y rest tt h.1)
-  | inr h ↦ elim (chosen (c == 62) _ _ _ h.1) [
-    | inl g ↦ rw (eqb-true c 62 g.0) (reads_by (Opening Holds) o t y rest tt g.1)
-    | inr g ↦ elim (chosen (c == 61) _ _ _ g.1) [
-      | inl f ↦ rw (eqb-true c 61 f.0) (reads_by (Opening (Looks true false)) o t y rest tt f.1)
-      | inr f ↦ elim (chosen (c == 33) _ _ _ f.1) [
-        | inl d ↦ rw (eqb-true c 33 d.0) (reads_by (Opening (Looks true true)) o t y rest tt d.1)
-        | inr d ↦ elim (chosen (c == 60) _ _ _ d.1) [
-          | inl b ↦ rw (eqb-true c 60 b.0) (behind_found o t y rest b.1)
-          | inr b ↦ elim (chosen (c == 35) _ _ _ b.1) [
-            | inl a ↦ rw (eqb-true c 35 a.0) (note_found o t y rest a.1)
-            | inr a ↦ absurd cc
-          ]
-        ]
-      ]
-    ]
-  ]
-]
-
--- a `(` that is read
-open_found : (o : Options) (t : List ℕ) (y : Sym) (rest : List ℕ) → open_at t ≡ Some (y, rest) → Reads o (40 ∷ t) y rest
-unfolding open_at
-open_found o [] y rest e = reads_by (Opening Captures) o [] y rest refl e
-open_found o (c ∷ t) y rest e = elim (cases_Bool (c == 63)) [
-  | inl h ↦ let at = eqb-true c 63 h in rw at (groups_found o t y rest (rw at at e))
-  | inr h ↦ reads_by (Opening Captures) o (c ∷ t) y rest h (rw h at e)
-]
+pub token_again : (names : Option Names) (k : Tok) (o : Options) (rest : List ℕ) → IsTok names k o rest → token_at names o (text_of k ++ rest) ≡ Some (sym_of k o, rest)
+unfolding token_at
+token_again names (Single a) o rest is = atom_again names a o rest is
+token_again names (Opens k) o rest is = bracket_token names k o rest ∙ opening_again k o rest is
+token_again names (Setting letters after) o rest is = setting_again letters o after rest is
+token_again names Closing o rest is = refl
+token_again names Bar o rest is = refl
+token_again names (Times amount mark) o rest is = times_again names amount mark o rest is.0 is.1
+token_again names (Skipped s) o rest is = skip_again names s o rest is
 
 -- a quantifier that is read
-times_found : (a : Amount) (o : Options) → IsAmount a → (t : List ℕ) (y : Sym) (rest : List ℕ) →
-    times_at (least_of a) (greatest_of a) (with_question a) (with_plus a) t ≡ Some (y, rest) → Reads o (amount_text a ++ t) y rest
-times_found a o is t y rest e =
+times_found : (names : Option Names) (a : Amount) (o : Options) → IsAmount a → (t : List ℕ) (y : Sym) (rest : List ℕ) →
+    times_at (least_of a) (greatest_of a) (with_question a) (with_plus a) t ≡ Some (y, rest) → Reads names o (amount_text a ++ t) y rest
+times_found names a o is t y rest e =
     let m = mark_found (least_of a) (greatest_of a) (with_question a) (with_plus a) t y rest e in
     record {
       tok = Times a m.mark;
@@ -283,45 +263,98 @@ times_found a o is t y rest e =
     }
 
 -- bounds that are read
-bounds_read : (b : Bounds) (o : Options) (more : List ℕ) → IsBounds b → (r : Option Interval) → interval_at (bounds_text b ++ more) ≡ r →
-    (y : Sym) (rest : List ℕ) → braces_at r ≡ Some (y, rest) → Reads o (123 ∷ (bounds_text b ++ more)) y rest
-bounds_read b o more is None at y rest e = absurd cc
-bounds_read b o more is (Some x) at y rest e =
+bounds_read : (names : Option Names) (b : Bounds) (o : Options) (more : List ℕ) → IsBounds b → (r : Option Interval) → interval_at (bounds_text b ++ more) ≡ r →
+    (y : Sym) (rest : List ℕ) → braces_at r ≡ Some (y, rest) → Reads names o (123 ∷ (bounds_text b ++ more)) y rest
+bounds_read names b o more is None at y rest e = absurd cc
+bounds_read names b o more is (Some x) at y rest e =
     let w = interval_found b more x is at in
     let again = ap (λ (x : Interval). braces_at (Some x)) w.is ∙ e in
-    times_found (Braces b) o (is, w.low) more y rest (rw (question_same b) at again)
+    times_found names (Braces b) o (is, w.low) more y rest (rw (question_same b) at again)
 
 -- a `{` that begins bounds
-braces_found : (o : Options) (t : List ℕ) (y : Sym) (rest : List ℕ) → bounds_at t ≡ true → braces_at (interval_at t) ≡ Some (y, rest) → Reads o (123 ∷ t) y rest
-braces_found o t y rest some e =
+braces_found : (names : Option Names) (o : Options) (t : List ℕ) (y : Sym) (rest : List ℕ) → bounds_at t ≡ true → braces_at (interval_at t) ≡ Some (y, rest) → Reads names o (123 ∷ t) y rest
+braces_found names o t y rest some e =
     let b = bounds_found t some in
-    subst (λ u. Reads o (123 ∷ u) y rest) (sym b.whole) (bounds_read b.bounds o b.more b.is (interval_at (bounds_text b.bounds ++ b.more)) refl y rest (rw b.whole at e))
+    subst (λ u. Reads names o (123 ∷ u) y rest) (sym b.whole) (bounds_read names b.bounds o b.more b.is (interval_at (bounds_text b.bounds ++ b.more)) refl y rest (rw b.whole at e))
 
 -- an escape that is read
-escape_found : (o : Options) (c : ℕ) (r : Option Tree) → escape_tree o c ≡ r → (t : List ℕ) (y : Sym) (rest : List ℕ) → means r t ≡ Some (y, rest) → Reads o (92 ∷ c ∷ t) y rest
-escape_found o c None is t y rest e = absurd cc
-escape_found o c (Some tree) is t y rest e = reads_by (Single (Escaped c tree)) o t y rest is e
+escape_found : (names : Option Names) (o : Options) (c : ℕ) → begins_reference c ≡ false → (r : Option Tree) → escape_tree o c ≡ r → (t : List ℕ) (y : Sym) (rest : List ℕ) → means r t ≡ Some (y, rest) →
+    Reads names o (92 ∷ c ∷ t) y rest
+escape_found names o c other None is t y rest e = absurd cc
+escape_found names o c other (Some tree) is t y rest e = reads_by names (Single (Escaped c tree)) o t y rest (other, is) e
 
--- a character that is read
-single_found : (o : Options) (c : ℕ) (t : List ℕ) → (c ≡ 123 → NoBounds t) → (r : Option Tree) → single_tree o c ≡ r → (y : Sym) (rest : List ℕ) → means r t ≡ Some (y, rest) → Reads o (c ∷ t) y rest
-single_found o c t none None is y rest e = absurd cc
-single_found o c t none (Some tree) is y rest e = reads_by (Single (Plain c tree)) o t y rest (is, none) e
+-- a reference that is read, with what it means
+back_found : (names : Option Names) (o : Options) (t : List ℕ) (y : Sym) (rest : List ℕ) (r : Referred names o t y rest) (m : Option Tree) → option_map (back_tree o) (meant_in names (key_of r.reference)) ≡ m →
+    means m r.after ≡ Some (y, rest) → Reads names o (92 ∷ t) y rest
+back_found names o t y rest r None is e = absurd cc
+back_found names o t y rest r (Some tree) is e =
+    reads_as names o (92 ∷ t) (92 ∷ (reference_text r.reference ++ r.after)) y rest (ap (λ u. 92 ∷ u) r.whole) (reads_by names (Single (Refers r.reference tree)) o r.after y rest (r.is, is) e)
 
 -- what stands behind a backslash
-slash_found : (o : Options) (t : List ℕ) (y : Sym) (rest : List ℕ) → escape_at o t ≡ Some (y, rest) → Reads o (92 ∷ t) y rest
+slash_found : (names : Option Names) (o : Options) (t : List ℕ) (y : Sym) (rest : List ℕ) → escape_at names o t ≡ Some (y, rest) → Reads names o (92 ∷ t) y rest
 unfolding escape_at
-slash_found o [] y rest e = absurd cc
-slash_found o (c ∷ t) y rest e = escape_found o c (escape_tree o c) refl t y rest e
+slash_found names o [] y rest e = absurd cc
+slash_found names o (c ∷ t) y rest e = elim (chosen (begins_reference c) _ _ _ e) [
+  | inl h ↦
+      let r = reference_found names o c t y rest h.0 h.1 in
+      back_found names o (c ∷ t) y rest r (option_map (back_tree o) (meant_in names (key_of r.reference))) refl r.means
+  | inr h ↦ escape_found names o c h.0 (escape_tree o c) refl t y rest h.1
+]
 
--- the last case
-sign_found : (o : Options) (c : ℕ) (b : Option (ℕ × Option ℕ)) → sign_bounds c ≡ b → (t : List ℕ) (y : Sym) (rest : List ℕ) → sign_or o b c t ≡ Some (y, rest) → Reads o (c ∷ t) y rest
-sign_found o c None is t y rest e = elim (chosen ((c == 123) && bounds_at t) _ _ _ e) [
+-- a character that is read
+single_found : (names : Option Names) (o : Options) (c : ℕ) (t : List ℕ) → skips o c ≡ false → (c ≡ 123 → NoBounds t) → (r : Option Tree) → single_tree o c ≡ r → (y : Sym) (rest : List ℕ) →
+    means r t ≡ Some (y, rest) → Reads names o (c ∷ t) y rest
+single_found names o c t kept none None is y rest e = absurd cc
+single_found names o c t kept none (Some tree) is y rest e = reads_by names (Single (Plain c tree)) o t y rest (is, kept, none) e
+
+-- bounds, or a character that is read
+bounds_or_found : (names : Option Names) (o : Options) (c : ℕ) → skips o c ≡ false → (t : List ℕ) (y : Sym) (rest : List ℕ) → bounds_or o c t ≡ Some (y, rest) → Reads names o (c ∷ t) y rest
+bounds_or_found names o c kept t y rest e = elim (chosen ((c == 123) && bounds_at t) _ _ _ e) [
   | inl h ↦
       let both = and_parts (c == 123) (bounds_at t) h.0 in
-      rw (eqb-true c 123 both.0) (braces_found o t y rest both.1 h.1)
-  | inr h ↦ single_found o c t (brace_found c t h.0) (single_tree o c) refl y rest h.1
+      rw (eqb-true c 123 both.0) (braces_found names o t y rest both.1 h.1)
+  | inr h ↦ single_found names o c t kept (brace_found c t h.0) (single_tree o c) refl y rest h.1
 ]
-sign_found o c (Some bounds) is t y rest e = times_found (Sign c bounds.0 bounds.1) o is t y rest e
+
+-- The rest of a line.
+record Line (t : List ℕ) : Type 0 where
+  text : List ℕ
+  whole : t ≡ text ++ line_end t
+  none : list_any (λ c. c == 10) text ≡ false
+  ends : ends_line (line_end t) ≡ true
+
+-- one character more
+line_more : (c : ℕ) (t : List ℕ) → (c == 10) ≡ false → Line t → Line (c ∷ t)
+unfolding line_end
+line_more c t other l = record { text = c ∷ l.text; whole = rw other (ap (λ u. c ∷ u) l.whole); none = rw other l.none; ends = rw other l.ends }
+
+-- a text begins with the rest of a line
+line_of : (t : List ℕ) → Line t
+unfolding line_end
+line_of [] = record { text = []; whole = refl; none = refl; ends = refl }
+line_of (c ∷ t) = elim (cases_Bool (c == 10)) [
+  | inl h ↦ record { text = []; whole = rw h refl; none = refl; ends = rw h h }
+  | inr h ↦ line_more c t h (line_of t)
+]
+
+-- a remark that is read
+remark_found : (names : Option Names) (o : Options) (t : List ℕ) (y : Sym) (rest : List ℕ) → o.extended ≡ true → ◌≡◌ {A = Found} (Some (Skips, line_end t)) (Some (y, rest)) → Reads names o (35 ∷ t) y rest
+remark_found names o t y rest is e =
+    let l = line_of t in
+    reads_as names o (35 ∷ t) (35 ∷ (l.text ++ line_end t)) y rest (ap (λ u. 35 ∷ u) l.whole) (reads_by names (Skipped (Remark l.text)) o (line_end t) y rest (is, l.none, l.ends) e)
+
+-- the last case
+sign_found : (names : Option Names) (o : Options) (c : ℕ) (b : Option (ℕ × Option ℕ)) → sign_bounds c ≡ b → (t : List ℕ) (y : Sym) (rest : List ℕ) → sign_or o b c t ≡ Some (y, rest) → Reads names o (c ∷ t) y rest
+sign_found names o c None is t y rest e = elim (chosen (o.extended && is_blank c) _ _ _ e) [
+  | inl h ↦ reads_by names (Skipped (Blank c)) o t y rest h.0 h.1
+  | inr h ↦ elim (chosen (o.extended && (c == 35)) _ _ _ h.1) [
+    | inl g ↦
+        let both = and_parts o.extended (c == 35) g.0 in
+        rw (eqb-true c 35 both.1) (remark_found names o t y rest both.0 g.1)
+    | inr g ↦ bounds_or_found names o c (is_kept o c h.0 g.0) t y rest g.1
+  ]
+]
+sign_found names o c (Some bounds) is t y rest e = times_found names (Sign c bounds.0 bounds.1) o is t y rest e
 
 -- a class was read as it is written
 record ReadsClass (t : List ℕ) (negated : Bool) (members : List Member) (rest : List ℕ) : Type 0 where
@@ -359,27 +392,27 @@ class_found (c ∷ t) x e = elim (chosen (c == 94) _ _ _ e) [
 ]
 
 -- a `[` that is read
-brackets_found : (o : Options) (t : List ℕ) (r : Option ((Bool × List Member) × List ℕ)) → class_at t ≡ r → (y : Sym) (rest : List ℕ) → means_class r ≡ Some (y, rest) → Reads o (91 ∷ t) y rest
-brackets_found o t None is y rest e = absurd cc
-brackets_found o t (Some x) is y rest e =
+brackets_found : (names : Option Names) (o : Options) (t : List ℕ) (r : Option ((Bool × List Member) × List ℕ)) → class_at t ≡ r → (y : Sym) (rest : List ℕ) → means_class r ≡ Some (y, rest) → Reads names o (91 ∷ t) y rest
+brackets_found names o t None is y rest e = absurd cc
+brackets_found names o t (Some x) is y rest e =
     let c = class_found t x is in
-    subst (λ u. Reads o u y rest) (sym c.whole) (reads_by (Single (Class x.0.0 c.items)) o x.1 y rest c.is (ap (λ ms. Some (Means (class_built x.0.0 ms), x.1)) (sym c.means) ∙ e))
+    subst (λ u. Reads names o u y rest) (sym c.whole) (reads_by names (Single (Class x.0.0 c.items)) o x.1 y rest c.is (ap (λ ms. Some (Means (class_built x.0.0 ms), x.1)) (sym c.means) ∙ e))
 
 -- A thing that is read is written.
-pub token_found : (o : Options) (t : List ℕ) (y : Sym) (rest : List ℕ) → token_at o t ≡ Some (y, rest) → Reads o t y rest
+pub token_found : (names : Option Names) (o : Options) (t : List ℕ) (y : Sym) (rest : List ℕ) → token_at names o t ≡ Some (y, rest) → Reads names o t y rest
 unfolding token_at
-token_found o [] y rest e = absurd cc
-token_found o (c ∷ t) y rest e = elim (chosen (c == 40) _ _ _ e) [
-  | inl h ↦ rw (eqb-true c 40 h.0) (open_found o t y rest h.1)
+token_found names o [] y rest e = absurd cc
+token_found names o (c ∷ t) y rest e = elim (chosen (c == 40) _ _ _ e) [
+  | inl h ↦ rw (eqb-true c 40 h.0) (open_found names o t y rest h.1)
   | inr h ↦ elim (chosen (c == 41) _ _ _ h.1) [
-    | inl g ↦ rw (eqb-true c 41 g.0) (reads_by Closing o t y rest tt g.1)
+    | inl g ↦ rw (eqb-true c 41 g.0) (reads_by names Closing o t y rest tt g.1)
     | inr g ↦ elim (chosen (c == 124) _ _ _ g.1) [
-      | inl f ↦ rw (eqb-true c 124 f.0) (reads_by Bar o t y rest tt f.1)
+      | inl f ↦ rw (eqb-true c 124 f.0) (reads_by names Bar o t y rest tt f.1)
       | inr f ↦ elim (chosen (c == 92) _ _ _ f.1) [
-        | inl d ↦ rw (eqb-true c 92 d.0) (slash_found o t y rest d.1)
+        | inl d ↦ rw (eqb-true c 92 d.0) (slash_found names o t y rest d.1)
         | inr d ↦ elim (chosen (c == 91) _ _ _ d.1) [
-          | inl b ↦ rw (eqb-true c 91 b.0) (brackets_found o t (class_at t) refl y rest b.1)
-          | inr b ↦ sign_found o c (sign_bounds c) refl t y rest b.1
+          | inl b ↦ rw (eqb-true c 91 b.0) (brackets_found names o t (class_at t) refl y rest b.1)
+          | inr b ↦ sign_found names o c (sign_bounds c) refl t y rest b.1
         ]
       ]
     ]
@@ -392,25 +425,35 @@ atom_length (Plain c tree) = omega arith
 atom_length (Escaped c tree) = omega arith
 atom_length (Class true is) = omega arith
 atom_length (Class false is) = omega arith
+atom_length (Refers r tree) = omega arith
+
+-- an opening is not empty
+opening_length : (k : Opening) → 0 < length (opening_text k)
+opening_length Capture = omega arith
+opening_length (Named true name) = omega arith
+opening_length (Named false name) = omega arith
+opening_length (Group letters o) = omega arith
+opening_length Keep = omega arith
+opening_length (Look true false) = omega arith
+opening_length (Look true true) = omega arith
+opening_length (Look false false) = omega arith
+opening_length (Look false true) = omega arith
 
 -- no thing is empty
 pub text_length : (k : Tok) → 0 < length (text_of k)
 text_length (Single a) = atom_length a
-text_length (Opening Captures) = omega arith
-text_length (Opening Groups) = omega arith
-text_length (Opening Holds) = omega arith
-text_length (Opening (Looks true false)) = omega arith
-text_length (Opening (Looks true true)) = omega arith
-text_length (Opening (Looks false false)) = omega arith
-text_length (Opening (Looks false true)) = omega arith
+text_length (Opens k) = opening_length k
+text_length (Setting letters o) = omega arith
 text_length Closing = omega arith
 text_length Bar = omega arith
 text_length (Times (Sign sign least greatest) mark) = omega arith
 text_length (Times (Braces b) mark) = omega arith
-text_length (Comment text) = omega arith
+text_length (Skipped (Comment text)) = omega arith
+text_length (Skipped (Blank c)) = omega arith
+text_length (Skipped (Remark text)) = omega arith
 
 -- each thing takes a character
-pub token_shorter : (o : Options) (t : List ℕ) (y : Sym) (rest : List ℕ) → token_at o t ≡ Some (y, rest) → length rest < length t
-token_shorter o t y rest e =
-    let r = token_found o t y rest e in
+pub token_shorter : (names : Option Names) (o : Options) (t : List ℕ) (y : Sym) (rest : List ℕ) → token_at names o t ≡ Some (y, rest) → length rest < length t
+token_shorter names o t y rest e =
+    let r = token_found names o t y rest e in
     omega (arith, text_length r.tok, simp length-append at (ap length r.whole))

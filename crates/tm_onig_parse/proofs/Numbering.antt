@@ -1,19 +1,24 @@
 -- The groups of a pattern that is read are numbered in the order of their opening.
-use Rattle.std.proofs.Common.{◌≡◌, ℕ, zero, suc, ◌+◌, ◌≤◌, Bool, true, false, List, [], ◌∷◌, ◌++◌, map, length, Option, Some, None, refl, sym, ap, ap₂, ◌∙◌, subst, arith, append_assoc, append-nil, add-zero}
+use Rattle.std.proofs.Common.{◌≡◌, ℕ, zero, suc, ◌+◌, ◌≤◌, Bool, true, false, List, [], ◌∷◌, ◌++◌, map, length, Option, Some, None, refl, sym, ap, ap₂, ◌∙◌, subst, arith, append_assoc, append-nil, add-zero, length-append, option_map, le-leb}
 use Rattle.std.specs.Prelude.{nat_le, ◌&&◌, ◌==◌, if◌then◌else◌}
 use Rattle.std.specs.List.{list_all}
+use Rattle.std.proofs.lemmas.Bool.{and_parts}
+use Rattle.std.proofs.lemmas.Option.{cond_some}
+use Rattle.tm_onig_parse.specs.declared.groups.Opener.{Opener}
 use Rattle.tm_onig_class.specs.Tree.{Tree, Char, Any, Holds, trees}
 use Rattle.tm_onig_class.specs.declared.patterns.Position.{Position}
 use Rattle.tm_onig_class.specs.declared.patterns.Position.TheVariants as Place
 use Rattle.tm_onig_class.specs.declared.listed.Listed.{Listed}
 use Rattle.tm_onig_class.specs.Groups.{group_numbers, numbers_in, references, references_in, counted, IsNumbered}
 use Rattle.tm_onig_parse.specs.declared.options.Options.{Options}
-use Rattle.tm_onig_parse.specs.declared.groups.Opener.TheVariants.{Captures, Groups, Holds, Looks}
+use Rattle.tm_onig_parse.specs.declared.groups.Opener.TheVariants.{Captures, Groups, Sets, Keeps, Looks}
 use Rattle.tm_onig_parse.specs.declared.quantifiers.Manner.{Manner}
 use Rattle.tm_onig_parse.specs.declared.quantifiers.Manner.TheVariants.{Greedy, Lazy, Possessive, Optional, Again}
 use Rattle.tm_onig_parse.specs.Characters.{no_options, is_special, single_tree, set_letter, escaped_char, set_or_char, place_letter, is_later, place_or_other, escape_tree}
-use Rattle.tm_onig_parse.specs.Grammar.{Atom, Plain, Escaped, Class, IsAtom, Toks, Single, Opening, Closing, Bar, Times, Comment, spelling, AreToks, Alts, First, Also, Row, Nothing, Then, Noted, Piece, Alone, Inside, Repeated, Behind, least_of, greatest_of, manner_of, written, written_row, written_piece, groups, groups_row, groups_piece}
-use Rattle.tm_onig_parse.specs.Meaning.{Built, quantified, tree_in, row_built, alts_built, atom_built, rows, parts, piece_built, meaning, Spells}
+use Rattle.tm_onig_parse.specs.Names.{Names, is_called, called_from, some_in, Key, Number, Name, key_of, meant}
+use Rattle.tm_onig_parse.specs.Things.{back_tree, Atom, Plain, Escaped, Class, Refers, IsAtom, Opening, Capture, Named, Group, Keep, Look, inside, opener_of, name_of, begun, count, least_of, greatest_of, manner_of, Toks, Single, Opens, Setting, Closing, Bar, Times, Skipped, spelling, AreToks, names_begun, names_among}
+use Rattle.tm_onig_parse.specs.Grammar.{Body, Simply, Under, Alts, First, Also, Row, Nothing, Then, Noted, Piece, Alone, Inside, Repeated, Behind, end_options, written, written_alts, written_row, written_piece, groups, groups_alts, groups_row, groups_piece}
+use Rattle.tm_onig_parse.specs.Meaning.{Built, enclosed, quantified, tree_in, row_built, alts_built, atom_built, bodies, rows, parts, piece_built, meaning, names_in, Spells}
 
 -- A tree without groups and references.
 record IsBare (tree : Tree) : Type 0 where
@@ -59,38 +64,92 @@ escape_bare : (o : Options) (c : ℕ) → MaybeBare (escape_tree o c)
 unfolding escape_tree
 escape_bare o c = place_bare o (place_letter c) c
 
--- the tree of an atom
-atom_bare : (a : Atom) (o : Options) (rest : List ℕ) → IsAtom a o rest → IsBare (atom_built a).tree
+-- The groups that a list names are among the first so many.
+abbrev AreKnown : ℕ → List ℕ → Type 0
+AreKnown m groups = list_all (λ g. nat_le 1 g && nat_le g m) groups ≡ true
+
+-- both lists
+known-append : (m : ℕ) (xs ys : List ℕ) → AreKnown m xs → AreKnown m ys → AreKnown m (xs ++ ys)
+known-append m [] ys x y = y
+known-append m (g ∷ xs) ys x y =
+    let parts = and_parts (nat_le 1 g && nat_le g m) (list_all (λ g. nat_le 1 g && nat_le g m) xs) x in
+    rw parts.0 (known-append m xs ys parts.1 y)
+
+-- the groups that have a name are among all
+called_known : (names : Names) (n m : ℕ) (name : List ℕ) → 1 ≤ n → n + length names ≤ m + 1 → AreKnown m (called_from n name names)
+unfolding called_from
+called_known [] n m name low high = refl
+called_known (g ∷ gs) n m name low high = by_test (is_called name g) (called_known gs (n + 1) m name (omega arith) (omega arith))
+  where
+    by_test : (is : Bool) → AreKnown m (called_from (n + 1) name gs) → AreKnown m (if is then n ∷ called_from (n + 1) name gs else called_from (n + 1) name gs)
+    by_test false more = more
+    by_test true more = rw (le-leb 1 n low, le-leb n m (omega arith)) more
+
+-- some list in both
+some_is : (xs groups : List ℕ) → some_in xs ≡ Some groups → xs ≡ groups
+some_is [] groups e = absurd cc
+some_is (x ∷ xs) groups e = cc
+
+-- what a reference means is among all groups
+meant_known : (names : Names) (key : Key) (groups : List ℕ) → meant names key ≡ Some groups → AreKnown (length names) groups
+meant_known names (Number n) groups e =
+    let c = cond_some _ _ _ e in
+    subst (AreKnown (length names)) c.1 (rw c.0 refl)
+meant_known names (Name name) groups e =
+    subst (AreKnown (length names)) (some_is _ groups e) (called_known names 1 (length names) name (omega arith) (omega arith))
+
+-- A tree without groups, that names such as are there.
+record IsLeaf (m : ℕ) (tree : Tree) : Type 0 where
+  numbers : group_numbers tree ≡ []
+  known : AreKnown m (references tree)
+
+-- a tree that names none
+bare_leaf : (m : ℕ) (tree : Tree) → IsBare tree → IsLeaf m tree
+bare_leaf m tree b = record { numbers = b.numbers; known = ap (list_all (λ g. nat_le 1 g && nat_le g m)) b.named }
+
+-- a reference
+back_leaf : (names : Names) (key : Key) (o : Options) (found : Option (List ℕ)) (tree : Tree) → meant names key ≡ found → option_map (back_tree o) found ≡ Some tree → IsLeaf (length names) tree
 unfolding group_numbers references
-atom_bare (Plain c tree) o rest is = subst MaybeBare is.0 (single_bare o c)
-atom_bare (Escaped c tree) o rest is = subst MaybeBare is (escape_bare o c)
-atom_bare (Class negated is) o rest are = record { numbers = refl; named = refl }
+back_leaf names key o None tree is e = absurd cc
+back_leaf names key o (Some groups) tree is e =
+    let same : back_tree o groups ≡ tree = cc in
+    subst (IsLeaf (length names)) same (record { numbers = refl; known = meant_known names key groups is })
+
+-- the tree of an atom
+atom_leaf : (names : Names) (a : Atom) (o : Options) (rest : List ℕ) → IsAtom (Some names) a o rest → IsLeaf (length names) (atom_built a).tree
+unfolding group_numbers references
+atom_leaf names (Plain c tree) o rest is = bare_leaf (length names) tree (subst MaybeBare is.0 (single_bare o c))
+atom_leaf names (Escaped c tree) o rest is = bare_leaf (length names) tree (subst MaybeBare is.1 (escape_bare o c))
+atom_leaf names (Class negated is) o rest are = record { numbers = refl; known = refl }
+atom_leaf names (Refers r tree) o rest is = back_leaf names (key_of r) o (meant names (key_of r)) tree refl is.1
 
 -- The atoms among the things are atoms, whatever follows.
-abbrev AreAtoms : Toks → Type 0
-AreAtoms [] = Unit {0}
-AreAtoms ((Single a, o) ∷ ks) = ((rest : List ℕ) × IsAtom a o rest) × AreAtoms ks
-AreAtoms (k ∷ ks) = AreAtoms ks
+abbrev AreAtoms : Names → Toks → Type 0
+AreAtoms names [] = Unit {0}
+AreAtoms names ((Single a, o) ∷ ks) = ((rest : List ℕ) × IsAtom (Some names) a o rest) × AreAtoms names ks
+AreAtoms names (k ∷ ks) = AreAtoms names ks
 
 -- things in a row are so
-toks_atoms : (ks : Toks) → AreToks ks → AreAtoms ks
-toks_atoms [] are = tt
-toks_atoms ((Single a, o) ∷ ks) are = ((spelling ks, are.0), toks_atoms ks are.1)
-toks_atoms ((Opening k, o) ∷ ks) are = toks_atoms ks are.1
-toks_atoms ((Closing, o) ∷ ks) are = toks_atoms ks are.1
-toks_atoms ((Bar, o) ∷ ks) are = toks_atoms ks are.1
-toks_atoms ((Times amount mark, o) ∷ ks) are = toks_atoms ks are.1
-toks_atoms ((Comment text, o) ∷ ks) are = toks_atoms ks are.1
+toks_atoms : (names : Names) (ks : Toks) → AreToks (Some names) ks → AreAtoms names ks
+toks_atoms names [] are = tt
+toks_atoms names ((Single a, o) ∷ ks) are = ((spelling ks, are.0), toks_atoms names ks are.1)
+toks_atoms names ((Opens k, o) ∷ ks) are = toks_atoms names ks are.1
+toks_atoms names ((Setting letters after, o) ∷ ks) are = toks_atoms names ks are.1
+toks_atoms names ((Closing, o) ∷ ks) are = toks_atoms names ks are.1
+toks_atoms names ((Bar, o) ∷ ks) are = toks_atoms names ks are.1
+toks_atoms names ((Times amount mark, o) ∷ ks) are = toks_atoms names ks are.1
+toks_atoms names ((Skipped s, o) ∷ ks) are = toks_atoms names ks are.1
 
 -- and so is each of two rows
-atoms_split : (ks ls : Toks) → AreAtoms (ks ++ ls) → AreAtoms ks × AreAtoms ls
-atoms_split [] ls are = (tt, are)
-atoms_split ((Single a, o) ∷ ks) ls are = let rest = atoms_split ks ls are.1 in ((are.0, rest.0), rest.1)
-atoms_split ((Opening k, o) ∷ ks) ls are = atoms_split ks ls are
-atoms_split ((Closing, o) ∷ ks) ls are = atoms_split ks ls are
-atoms_split ((Bar, o) ∷ ks) ls are = atoms_split ks ls are
-atoms_split ((Times amount mark, o) ∷ ks) ls are = atoms_split ks ls are
-atoms_split ((Comment text, o) ∷ ks) ls are = atoms_split ks ls are
+atoms_split : (names : Names) (ks ls : Toks) → AreAtoms names (ks ++ ls) → AreAtoms names ks × AreAtoms names ls
+atoms_split names [] ls are = (tt, are)
+atoms_split names ((Single a, o) ∷ ks) ls are = let rest = atoms_split names ks ls are.1 in ((are.0, rest.0), rest.1)
+atoms_split names ((Opens k, o) ∷ ks) ls are = atoms_split names ks ls are
+atoms_split names ((Setting letters after, o) ∷ ks) ls are = atoms_split names ks ls are
+atoms_split names ((Closing, o) ∷ ks) ls are = atoms_split names ks ls are
+atoms_split names ((Bar, o) ∷ ks) ls are = atoms_split names ks ls are
+atoms_split names ((Times amount mark, o) ∷ ks) ls are = atoms_split names ks ls are
+atoms_split names ((Skipped s, o) ∷ ks) ls are = atoms_split names ks ls are
 
 -- the numbers of built parts, one after another
 abbrev numbers_of : List Built → List ℕ
@@ -164,88 +223,154 @@ counted-sum n (suc a) b = let e : n + 1 + a ≡ n + suc a = omega arith in
     let f : suc a + b ≡ suc (a + b) = omega arith in
     ap (counted n) f ∙ ap (λ l. (n + 1) ∷ l) (counted-sum (n + 1) a b ∙ ap (λ m. counted (n + 1) a ++ counted m b) e)
 
--- What stands between two counts: the numbers in order, and no name.
-record Counts (numbers named : List ℕ) (n k : ℕ) : Type 0 where
+-- What stands between two counts: the numbers in order, and names of groups that there are.
+record Counts (m : ℕ) (numbers named : List ℕ) (n k : ℕ) : Type 0 where
   in_order : numbers ≡ counted n k
-  none : named ≡ []
+  known : AreKnown m named
 
 -- the same counts
-counts_same : (x y : List ℕ) (m n k j : ℕ) → m ≡ n → k ≡ j → Counts x y m k → Counts x y n j
-counts_same x y m n k j e f c = record { in_order = c.in_order ∙ ap₂ counted e f; none = c.none }
+counts_same : (m : ℕ) (x y : List ℕ) (a b k j : ℕ) → a ≡ b → k ≡ j → Counts m x y a k → Counts m x y b j
+counts_same m x y a b k j e f c = record { in_order = c.in_order ∙ ap₂ counted e f; known = c.known }
 
 -- one after another
-counts_join : (x y v w : List ℕ) (n a b : ℕ) → Counts x v n a → Counts y w (n + a) b → Counts (x ++ y) (v ++ w) n (a + b)
-counts_join x y v w n a b c d = record { in_order = ap₂ ◌++◌ c.in_order d.in_order ∙ sym (counted-sum n a b); none = ap₂ ◌++◌ c.none d.none }
+counts_join : (m : ℕ) (x y v w : List ℕ) (n a b : ℕ) → Counts m x v n a → Counts m y w (n + a) b → Counts m (x ++ y) (v ++ w) n (a + b)
+counts_join m x y v w n a b c d = record { in_order = ap₂ ◌++◌ c.in_order d.in_order ∙ sym (counted-sum n a b); known = known-append m v w c.known d.known }
 
 -- the same lists
-counts_of : (x y v w : List ℕ) (n k : ℕ) → y ≡ x → w ≡ v → Counts x v n k → Counts y w n k
-counts_of x y v w n k e f c = record { in_order = e ∙ c.in_order; none = f ∙ c.none }
+counts_of : (m : ℕ) (x y v w : List ℕ) (n k : ℕ) → y ≡ x → w ≡ v → Counts m x v n k → Counts m y w n k
+counts_of m x y v w n k e f c = record { in_order = e ∙ c.in_order; known = subst (AreKnown m) (sym f) c.known }
 
 -- a group that captures
-captures_count : (x v : List ℕ) (n k : ℕ) → Counts x v (n + 1) k → Counts ((n + 1) ∷ x) v n (1 + k)
+captures_count : (m : ℕ) (x v : List ℕ) (n k : ℕ) → Counts m x v (n + 1) k → Counts m ((n + 1) ∷ x) v n (1 + k)
 unfolding counted
-captures_count x v n k c = record { in_order = ap (λ l. (n + 1) ∷ l) c.in_order ∙ sym (counted-sum n 1 k); none = c.none }
+captures_count m x v n k c = record { in_order = ap (λ l. (n + 1) ∷ l) c.in_order ∙ sym (counted-sum n 1 k); known = c.known }
 
 -- a row as the only alternative
-one_row : (row : Row) (n : ℕ) → Counts (numbers_of (parts row n)) (named_by (parts row n)) n (groups_row row) →
-    Counts (numbers_of (row_built (parts row n) ∷ [])) (named_by (row_built (parts row n) ∷ [])) n (groups_row row)
-one_row row n c = counts_of _ _ _ _ n (groups_row row) (append-nil _ ∙ row_numbers (parts row n)) (append-nil _ ∙ row_named (parts row n)) c
+one_row : (m : ℕ) (ts : List Built) (n k : ℕ) → Counts m (numbers_of ts) (named_by ts) n k → Counts m (numbers_of (row_built ts ∷ [])) (named_by (row_built ts ∷ [])) n k
+one_row m ts n k c = counts_of m _ _ _ _ n k (append-nil _ ∙ row_numbers ts) (append-nil _ ∙ row_named ts) c
+
+-- two lists of parts
+lists_join : (m : ℕ) (xs ys : List Built) (n a b : ℕ) → Counts m (numbers_of xs) (named_by xs) n a → Counts m (numbers_of ys) (named_by ys) (n + a) b →
+    Counts m (numbers_of (xs ++ ys)) (named_by (xs ++ ys)) n (a + b)
+lists_join m xs ys n a b c d = counts_of m _ _ _ _ n (a + b) (numbers_of-append xs ys) (named_by-append xs ys) (counts_join m _ _ _ _ n a b c d)
+
+-- a part alone
+one_part : (m : ℕ) (b : Built) (n k : ℕ) → Counts m (group_numbers b.tree) (references b.tree) n k → Counts m (numbers_of (b ∷ [])) (named_by (b ∷ [])) n k
+one_part m b n k c = counts_of m _ _ _ _ n k (append-nil _) (append-nil _) c
 
 -- a quantifier adds none
-quantified_count : (least : ℕ) (greatest : Option ℕ) (manner : Manner) (b : Built) (n k : ℕ) → Counts (group_numbers b.tree) (references b.tree) n k →
-    Counts (group_numbers (quantified least greatest manner b).tree) (references (quantified least greatest manner b).tree) n k
+quantified_count : (m least : ℕ) (greatest : Option ℕ) (manner : Manner) (b : Built) (n k : ℕ) → Counts m (group_numbers b.tree) (references b.tree) n k →
+    Counts m (group_numbers (quantified least greatest manner b).tree) (references (quantified least greatest manner b).tree) n k
 unfolding group_numbers references
-quantified_count least greatest Greedy b n k c = c
-quantified_count least greatest Lazy b n k c = c
-quantified_count least greatest Possessive b n k c = c
-quantified_count least greatest Optional b n k c = c
-quantified_count least greatest Again b n k c = c
+quantified_count m least greatest Greedy b n k c = c
+quantified_count m least greatest Lazy b n k c = c
+quantified_count m least greatest Possessive b n k c = c
+quantified_count m least greatest Optional b n k c = c
+quantified_count m least greatest Again b n k c = c
+
+-- a group around what is counted
+enclosed_count : (m : ℕ) (k : Opener) (b : Built) (n g : ℕ) → Counts m (group_numbers b.tree) (references b.tree) (n + count k) g →
+    Counts m (group_numbers (enclosed k (n + count k) b).tree) (references (enclosed k (n + count k) b).tree) n (count k + g)
+unfolding group_numbers references
+enclosed_count m Captures b n g c = captures_count m _ _ n g c
+enclosed_count m Groups b n g c = counts_same m _ _ (n + 0) n g (0 + g) (omega arith) (omega arith) c
+enclosed_count m Sets b n g c = counts_same m _ _ (n + 0) n g (0 + g) (omega arith) (omega arith) c
+enclosed_count m Keeps b n g c = counts_same m _ _ (n + 0) n g (0 + g) (omega arith) (omega arith) c
+enclosed_count m (Looks ahead negative) b n g c = counts_same m _ _ (n + 0) n g (0 + g) (omega arith) (omega arith) c
+
+-- alternatives that are counted
+alts_count : (m : ℕ) (ts : List Built) (n k : ℕ) → Counts m (numbers_of ts) (named_by ts) n k → Counts m (group_numbers (alts_built ts).tree) (references (alts_built ts).tree) n k
+alts_count m ts n k c = counts_of m _ _ _ _ n k (alts_numbers ts) (alts_named ts) c
 
 mutual
   unfolding group_numbers references counted
 
-  rows_count : (a : Alts) (o : Options) (n : ℕ) → AreAtoms (written a o) → Counts (numbers_of (rows a n)) (named_by (rows a n)) n (groups a)
-  rows_count (First row) o n are = one_row row n (parts_count row o n are)
-  rows_count (Also alts row) o n are =
-      let each = atoms_split (written alts o) ((Bar, o) ∷ written_row row o) are in
-      let m = n + groups alts in
-      counts_of _ _ _ _ n (groups alts + groups_row row) (numbers_of-append (rows alts n) (row_built (parts row m) ∷ [])) (named_by-append (rows alts n) (row_built (parts row m) ∷ []))
-      (counts_join _ _ _ _ n (groups alts) (groups_row row) (rows_count alts o n each.0) (one_row row m (parts_count row o m each.1)))
+  bodies_count : (names : Names) (b : Body) (o : Options) (n : ℕ) → AreAtoms names (written b o) → Counts (length names) (numbers_of (bodies b n)) (named_by (bodies b n)) n (groups b)
+  bodies_count names (Simply alts) o n are =
+      counts_same (length names) _ _ n n (groups_alts alts + 0) (groups_alts alts) refl (omega arith)
+      (rows_count names alts [] o n 0 are (record { in_order = refl; known = refl }))
+  bodies_count names (Under alts letters after body) o n are =
+      let each = atoms_split names (written_alts alts o) ((Setting letters after, o) ∷ written body after) are in
+      let m = n + groups_alts alts in
+      rows_count names alts (enclosed Sets m (alts_built (bodies body m)) ∷ []) o n (groups body) each.0
+      (one_part (length names) (enclosed Sets m (alts_built (bodies body m))) m (groups body) (alts_count (length names) (bodies body m) m (groups body) (bodies_count names body after m each.1)))
 
-  parts_count : (r : Row) (o : Options) (n : ℕ) → AreAtoms (written_row r o) → Counts (numbers_of (parts r n)) (named_by (parts r n)) n (groups_row r)
-  parts_count Nothing o n are = record { in_order = refl; none = refl }
-  parts_count (Noted row text) o n are = parts_count row o n (atoms_split (written_row row o) ((Comment text, o) ∷ []) are).0
-  parts_count (Then row piece) o n are =
-      let each = atoms_split (written_row row o) (written_piece piece o) are in
+  rows_count : (names : Names) (a : Alts) (more : List Built) (o : Options) (n k : ℕ) → AreAtoms names (written_alts a o) →
+      Counts (length names) (numbers_of more) (named_by more) (n + groups_alts a) k →
+      Counts (length names) (numbers_of (rows a more n)) (named_by (rows a more n)) n (groups_alts a + k)
+  rows_count names (First row) more o n k are rest =
+      one_row (length names) (parts row n ++ more) n (groups_row row + k) (lists_join (length names) (parts row n) more n (groups_row row) k (parts_count names row o n are) rest)
+  rows_count names (Also alts row) more o n k are rest =
+      let each = atoms_split names (written_alts alts o) ((Bar, o) ∷ written_row row o) are in
+      let m = n + groups_alts alts in
+      let all = length names in
+      let front = counts_same all _ _ n n (groups_alts alts + 0) (groups_alts alts) refl (omega arith) (rows_count names alts [] o n 0 each.0 (record { in_order = refl; known = refl })) in
+      let last = lists_join all (parts row m) more m (groups_row row) k (parts_count names row o m each.1) (counts_same all _ _ (n + (groups_alts alts + groups_row row)) (m + groups_row row) k k (omega arith) refl rest) in
+      counts_same all _ _ n n (groups_alts alts + (groups_row row + k)) ((groups_alts alts + groups_row row) + k) refl (omega arith)
+      (lists_join all (rows alts [] n) (row_built (parts row m ++ more) ∷ []) n (groups_alts alts) (groups_row row + k) front (one_row all (parts row m ++ more) m (groups_row row + k) last))
+
+  parts_count : (names : Names) (r : Row) (o : Options) (n : ℕ) → AreAtoms names (written_row r o) → Counts (length names) (numbers_of (parts r n)) (named_by (parts r n)) n (groups_row r)
+  parts_count names Nothing o n are = record { in_order = refl; known = refl }
+  parts_count names (Noted row s) o n are = parts_count names row o n (atoms_split names (written_row row o) ((Skipped s, o) ∷ []) are).0
+  parts_count names (Then row piece) o n are =
+      let each = atoms_split names (written_row row o) (written_piece piece o) are in
       let m = n + groups_row row in
-      counts_of _ _ _ _ n (groups_row row + groups_piece piece)
-      (numbers_of-append (parts row n) (piece_built piece m ∷ []) ∙ ap (λ l. numbers_of (parts row n) ++ l) (append-nil _))
-      (named_by-append (parts row n) (piece_built piece m ∷ []) ∙ ap (λ l. named_by (parts row n) ++ l) (append-nil _))
-      (counts_join _ _ _ _ n (groups_row row) (groups_piece piece) (parts_count row o n each.0) (piece_count piece o m each.1))
+      lists_join (length names) (parts row n) (piece_built piece m ∷ []) n (groups_row row) (groups_piece piece) (parts_count names row o n each.0)
+      (one_part (length names) (piece_built piece m) m (groups_piece piece) (piece_count names piece o m each.1))
 
-  piece_count : (p : Piece) (o : Options) (n : ℕ) → AreAtoms (written_piece p o) →
-      Counts (group_numbers (piece_built p n).tree) (references (piece_built p n).tree) n (groups_piece p)
-  piece_count (Alone a) o n are = let bare = atom_bare a o are.0.0 are.0.1 in record { in_order = bare.numbers; none = bare.named }
-  piece_count (Behind piece text) o n are = piece_count piece o n (atoms_split (written_piece piece o) ((Comment text, o) ∷ []) are).0
-  piece_count (Inside Captures alts) o n are =
-      captures_count _ _ n (groups alts)
-      (counts_of _ _ _ _ (n + 1) (groups alts) (alts_numbers (rows alts (n + 1))) (alts_named (rows alts (n + 1)))
-      (rows_count alts o (n + 1) (atoms_split (written alts o) ((Closing, o) ∷ []) are).0))
-  piece_count (Inside Groups alts) o n are =
-      counts_same _ _ (n + 0) n (groups alts) (0 + groups alts) (omega arith) (omega arith)
-      (counts_of _ _ _ _ (n + 0) (groups alts) (alts_numbers (rows alts (n + 0))) (alts_named (rows alts (n + 0)))
-      (rows_count alts o (n + 0) (atoms_split (written alts o) ((Closing, o) ∷ []) are).0))
-  piece_count (Inside Holds alts) o n are =
-      counts_same _ _ (n + 0) n (groups alts) (0 + groups alts) (omega arith) (omega arith)
-      (counts_of _ _ _ _ (n + 0) (groups alts) (alts_numbers (rows alts (n + 0))) (alts_named (rows alts (n + 0)))
-      (rows_count alts o (n + 0) (atoms_split (written alts o) ((Closing, o) ∷ []) are).0))
-  piece_count (Inside (Looks ahead negative) alts) o n are =
-      counts_same _ _ (n + 0) n (groups alts) (0 + groups alts) (omega arith) (omega arith)
-      (counts_of _ _ _ _ (n + 0) (groups alts) (alts_numbers (rows alts (n + 0))) (alts_named (rows alts (n + 0)))
-      (rows_count alts o (n + 0) (atoms_split (written alts o) ((Closing, o) ∷ []) are).0))
-  piece_count (Repeated piece amount mark) o n are =
-      quantified_count (least_of amount) (greatest_of amount) (manner_of amount mark) (piece_built piece n) n (groups_piece piece)
-      (piece_count piece o n (atoms_split (written_piece piece o) ((Times amount mark, o) ∷ []) are).0)
+  piece_count : (names : Names) (p : Piece) (o : Options) (n : ℕ) → AreAtoms names (written_piece p o) →
+      Counts (length names) (group_numbers (piece_built p n).tree) (references (piece_built p n).tree) n (groups_piece p)
+  piece_count names (Alone a) o n are = let leaf = atom_leaf names a o are.0.0 are.0.1 in record { in_order = leaf.numbers; known = leaf.known }
+  piece_count names (Behind piece s) o n are = piece_count names piece o n (atoms_split names (written_piece piece o) ((Skipped s, o) ∷ []) are).0
+  piece_count names (Inside k body) o n are =
+      let p = inside k o in
+      let m = n + count (opener_of k) in
+      enclosed_count (length names) (opener_of k) (alts_built (bodies body m)) n (groups body)
+      (alts_count (length names) (bodies body m) m (groups body) (bodies_count names body p m (atoms_split names (written body p) ((Closing, end_options body p) ∷ []) are).0))
+  piece_count names (Repeated piece amount mark) o n are =
+      quantified_count (length names) (least_of amount) (greatest_of amount) (manner_of amount mark) (piece_built piece n) n (groups_piece piece)
+      (piece_count names piece o n (atoms_split names (written_piece piece o) ((Times amount mark, o) ∷ []) are).0)
+
+-- the groups of two rows of things
+names_among-append : (ks ls : Toks) → names_among (ks ++ ls) ≡ names_among ks ++ names_among ls
+names_among-append [] ls = refl
+names_among-append (k ∷ ks) ls = ap (λ n. names_begun k.0 ++ n) (names_among-append ks ls) ∙ sym (append_assoc (names_begun k.0) (names_among ks) (names_among ls))
+
+-- how many they are
+length-among : (ks ls : Toks) → length (names_among (ks ++ ls)) ≡ length (names_among ks) + length (names_among ls)
+length-among ks ls = ap length (names_among-append ks ls) ∙ length-append (names_among ks) (names_among ls)
+
+-- an opening begins as many groups as it counts
+length-begun : (k : Opener) (name : Option (List ℕ)) → length (begun k name) ≡ count k
+length-begun Captures name = refl
+length-begun Groups name = refl
+length-begun Sets name = refl
+length-begun Keeps name = refl
+length-begun (Looks ahead negative) name = refl
+
+mutual
+  length-names : (b : Body) (o : Options) → length (names_among (written b o)) ≡ groups b
+  length-names (Simply alts) o = length-alts alts o
+  length-names (Under alts letters after body) o =
+      length-among (written_alts alts o) ((Setting letters after, o) ∷ written body after) ∙ ap₂ ◌+◌ (length-alts alts o) (length-names body after)
+
+  length-alts : (a : Alts) (o : Options) → length (names_among (written_alts a o)) ≡ groups_alts a
+  length-alts (First row) o = length-row row o
+  length-alts (Also alts row) o = length-among (written_alts alts o) ((Bar, o) ∷ written_row row o) ∙ ap₂ ◌+◌ (length-alts alts o) (length-row row o)
+
+  length-row : (r : Row) (o : Options) → length (names_among (written_row r o)) ≡ groups_row r
+  length-row Nothing o = refl
+  length-row (Noted row s) o = length-among (written_row row o) ((Skipped s, o) ∷ []) ∙ ap (λ n. n + 0) (length-row row o) ∙ omega arith
+  length-row (Then row piece) o = length-among (written_row row o) (written_piece piece o) ∙ ap₂ ◌+◌ (length-row row o) (length-piece piece o)
+
+  length-piece : (p : Piece) (o : Options) → length (names_among (written_piece p o)) ≡ groups_piece p
+  length-piece (Alone a) o = refl
+  length-piece (Behind piece s) o = length-among (written_piece piece o) ((Skipped s, o) ∷ []) ∙ ap (λ n. n + 0) (length-piece piece o) ∙ omega arith
+  length-piece (Repeated piece amount mark) o = length-among (written_piece piece o) ((Times amount mark, o) ∷ []) ∙ ap (λ n. n + 0) (length-piece piece o) ∙ omega arith
+  length-piece (Inside k body) o =
+      let p = inside k o in
+      length-append (begun (opener_of k) (name_of k)) (names_among (written body p ++ (Closing, end_options body p) ∷ []))
+      ∙ ap₂ ◌+◌ (length-begun (opener_of k) (name_of k)) (length-among (written body p) ((Closing, end_options body p) ∷ []) ∙ ap (λ n. n + 0) (length-names body p) ∙ omega arith)
 
 -- so many are counted
 length-counted : (n k : ℕ) → length (counted n k) ≡ k
@@ -254,17 +379,19 @@ length-counted n zero = refl
 length-counted n (suc k) = ap suc (length-counted (n + 1) k)
 
 -- numbers in order are as many as there are
-numbered : (tree : Tree) (k : ℕ) → k ≤ 1000 → Counts (group_numbers tree) (references tree) 0 k → IsNumbered tree
+numbered : (tree : Tree) (k : ℕ) → k ≤ 1000 → Counts k (group_numbers tree) (references tree) 0 k → IsNumbered tree
 numbered tree k few c =
     let many : length (group_numbers tree) ≡ k = ap length c.in_order ∙ length-counted 0 k in
     record {
       in_order = c.in_order ∙ ap (counted 0) (sym many);
       few = omega arith;
-      known = ap (list_all (λ g. nat_le 1 g && nat_le g (length (group_numbers tree)))) c.none;
+      known = rw many c.known;
     }
 
 -- The groups of what a text means are numbered.
-pub spells_numbered : (t : List ℕ) (alts : Alts) → Spells t alts → IsNumbered (meaning alts)
-spells_numbered t alts s =
-    numbered (meaning alts) (groups alts) s.few_groups
-    (counts_of _ _ _ _ 0 (groups alts) (alts_numbers (rows alts 0)) (alts_named (rows alts 0)) (rows_count alts no_options 0 (toks_atoms _ s.are)))
+pub spells_numbered : (t : List ℕ) (body : Body) → Spells t body → IsNumbered (meaning body)
+spells_numbered t body s =
+    let many = length-names body no_options in
+    numbered (meaning body) (groups body) s.few_groups
+    (subst (λ m. Counts m (group_numbers (meaning body)) (references (meaning body)) 0 (groups body)) many
+    (alts_count (length (names_in body)) (bodies body 0) 0 (groups body) (bodies_count (names_in body) body no_options 0 (toks_atoms (names_in body) _ s.are))))

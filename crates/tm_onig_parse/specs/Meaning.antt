@@ -4,13 +4,15 @@ use Rattle.tm_onig_class.specs.Members.{ranges_of}
 use Rattle.tm_onig_class.specs.Tree.{Tree, Empty, InSet, Cat, Alt, Group, Atomic, Look, Repeat, trees}
 use Rattle.tm_onig_class.specs.Widths.{least_width}
 use Rattle.tm_onig_parse.specs.declared.groups.Opener.{Opener}
-use Rattle.tm_onig_parse.specs.declared.groups.Opener.TheVariants.{Captures, Groups, Holds, Looks}
+use Rattle.tm_onig_parse.specs.declared.groups.Opener.TheVariants.{Captures, Groups, Sets, Keeps, Looks}
 use Rattle.tm_onig_parse.specs.declared.quantifiers.Manner.{Manner}
 use Rattle.tm_onig_parse.specs.declared.quantifiers.Manner.TheVariants.{Greedy, Lazy, Possessive, Optional, Again}
 use Rattle.tm_onig_parse.specs.declared.classes.Member.{Member}
 use Rattle.tm_onig_parse.specs.Characters.{no_options}
 use Rattle.tm_onig_parse.specs.Classes.{member_of, class_has}
-use Rattle.tm_onig_parse.specs.Grammar.{Atom, Plain, Escaped, Class, Alts, First, Also, Row, Nothing, Then, Noted, Piece, Alone, Inside, Repeated, Behind, least_of, greatest_of, manner_of, spelling, AreToks, written, count, groups, groups_row}
+use Rattle.tm_onig_parse.specs.Names.{Names}
+use Rattle.tm_onig_parse.specs.Things.{Atom, Plain, Escaped, Class, Refers, opener_of, count, least_of, greatest_of, manner_of, spelling, AreToks, names_among}
+use Rattle.tm_onig_parse.specs.Grammar.{Body, Simply, Under, Alts, First, Also, Row, Nothing, Then, Noted, Piece, Alone, Inside, Repeated, Behind, written, groups, groups_alts, groups_row}
 
 -- A tree with how deep its text is nested, whether it is a repetition, and whether each match of it
 -- takes a character.
@@ -32,6 +34,7 @@ class_built negated ms = record { tree = InSet (ranges_of (class_has negated ms)
 abbrev pub atom_built : Atom → Built
 atom_built (Plain c tree) = leaf tree
 atom_built (Escaped c tree) = leaf tree
+atom_built (Refers r tree) = leaf tree
 atom_built (Class negated is) = class_built negated (map member_of is)
 
 -- The tree alone.
@@ -69,7 +72,8 @@ alts_built (t ∷ u ∷ ts) = record { tree = Alt (trees (map tree_in (t ∷ u �
 abbrev pub enclosed : Opener → ℕ → Built → Built
 enclosed Captures n b = record { tree = Group n b.tree; height = b.height + 1; repeated = false; takes = b.takes }
 enclosed Groups n b = record { tree = b.tree; height = b.height + 1; repeated = false; takes = b.takes }
-enclosed Holds n b = record { tree = Atomic b.tree; height = b.height + 1; repeated = false; takes = b.takes }
+enclosed Sets n b = record { tree = b.tree; height = b.height + 1; repeated = false; takes = b.takes }
+enclosed Keeps n b = record { tree = Atomic b.tree; height = b.height + 1; repeated = false; takes = b.takes }
 enclosed (Looks ahead negative) n b = record { tree = Look b.tree ahead negative; height = b.height + 1; repeated = false; takes = false }
 
 -- A repetition of what is repeated counts as a group around it.
@@ -103,36 +107,45 @@ abbrev pub quantified : ℕ → Option ℕ → Manner → Built → Built
 quantified least greatest manner b = around manner (repeated least greatest (is_greedy manner) b)
 
 -- What each means where n capturing groups were opened before: groups have numbers in the order of
--- their opening.
+-- their opening. The last row of alternatives goes on with `more`: with the rest of the body, where
+-- options were set.
 abbrev mutual
-  pub rows : Alts → ℕ → List Built
-  rows (First row) n = row_built (parts row n) ∷ []
-  rows (Also alts row) n = rows alts n ++ row_built (parts row (n + groups alts)) ∷ []
+  pub bodies : Body → ℕ → List Built
+  bodies (Simply alts) n = rows alts [] n
+  bodies (Under alts letters after body) n = let m = n + groups_alts alts in rows alts (enclosed Sets m (alts_built (bodies body m)) ∷ []) n
+
+  pub rows : Alts → List Built → ℕ → List Built
+  rows (First row) more n = row_built (parts row n ++ more) ∷ []
+  rows (Also alts row) more n = rows alts [] n ++ row_built (parts row (n + groups_alts alts) ++ more) ∷ []
 
   pub parts : Row → ℕ → List Built
   parts Nothing n = []
   parts (Then row piece) n = parts row n ++ piece_built piece (n + groups_row row) ∷ []
-  parts (Noted row text) n = parts row n
+  parts (Noted row s) n = parts row n
 
   pub piece_built : Piece → ℕ → Built
   piece_built (Alone a) n = atom_built a
-  piece_built (Inside k alts) n = enclosed k (n + count k) (alts_built (rows alts (n + count k)))
+  piece_built (Inside k body) n = let m = n + count (opener_of k) in enclosed (opener_of k) m (alts_built (bodies body m))
   piece_built (Repeated piece amount mark) n = quantified (least_of amount) (greatest_of amount) (manner_of amount mark) (piece_built piece n)
-  piece_built (Behind piece text) n = piece_built piece n
+  piece_built (Behind piece s) n = piece_built piece n
 
 -- What a pattern means.
-abbrev pub built : Alts → Built
-built alts = alts_built (rows alts 0)
+abbrev pub built : Body → Built
+built body = alts_built (bodies body 0)
 
 -- The tree of a pattern.
-abbrev pub meaning : Alts → Tree
-meaning alts = (built alts).tree
+abbrev pub meaning : Body → Tree
+meaning body = (built body).tree
+
+-- Its capturing groups, with their names.
+abbrev pub names_in : Body → Names
+names_in body = names_among (written body no_options)
 
 -- The text is a pattern, written so. Its limits are part of this, and each match takes a character.
-pub record Spells (text : List ℕ) (alts : Alts) : Type 0 where
-  pub whole : text ≡ spelling (written alts no_options)
-  pub are : AreToks (written alts no_options)
+pub record Spells (text : List ℕ) (body : Body) : Type 0 where
+  pub whole : text ≡ spelling (written body no_options)
+  pub are : AreToks (Some (names_in body)) (written body no_options)
   pub short : length text ≤ 65536
-  pub few_groups : groups alts ≤ 1000
-  pub shallow : (built alts).height ≤ 200
-  pub advances : 1 ≤ least_width (meaning alts)
+  pub few_groups : groups body ≤ 1000
+  pub shallow : (built body).height ≤ 200
+  pub advances : 1 ≤ least_width (meaning body)

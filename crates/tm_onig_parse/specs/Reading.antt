@@ -4,20 +4,24 @@ use Rattle.std.specs.Char.{is_ascii_digit, digit_value}
 use Rattle.tm_onig_class.specs.Tree.{Tree}
 use Rattle.tm_onig_parse.specs.declared.options.Options.{Options}
 use Rattle.tm_onig_parse.specs.declared.groups.Opener.{Opener}
-use Rattle.tm_onig_parse.specs.declared.groups.Opener.TheVariants.{Captures, Groups, Holds, Looks}
+use Rattle.tm_onig_parse.specs.declared.groups.Opener.TheVariants.{Captures, Groups, Sets, Keeps, Looks}
 use Rattle.tm_onig_parse.specs.declared.quantifiers.Manner.{Manner}
 use Rattle.tm_onig_parse.specs.declared.quantifiers.Manner.TheVariants.{Greedy, Lazy, Possessive, Optional, Again}
 use Rattle.tm_onig_parse.specs.declared.classes.Member.{Member}
 use Rattle.tm_onig_parse.specs.Characters.{no_options, single_tree, escape_tree}
 use Rattle.tm_onig_parse.specs.Classes.{begins}
-use Rattle.tm_onig_parse.specs.Grammar.{sign_bounds, count}
+use Rattle.tm_onig_parse.specs.Names.{Names, is_name_char, starts_name, begins_digit, Key, Number, Name, meant_in}
+use Rattle.tm_onig_parse.specs.Options.{letter}
+use Rattle.tm_onig_parse.specs.Things.{is_blank, begins_reference, back_tree, sign_bounds, begun, count}
 use Rattle.tm_onig_parse.specs.Meaning.{Built, leaf, class_built, row_built, alts_built, enclosed, quantified}
 use Rattle.tm_onig_parse.specs.ClassReading.{◌>>=◌, rest_of, class_at}
 
 -- What is left of one thing once it is read.
 pub data Sym : Type 0 where
   Means : Built → Sym
-  Open : Opener → Sym
+  -- how, the name, and the options inside
+  Open : Opener → Option (List ℕ) → Options → Sym
+  Switches : Options → Sym
   Close : Sym
   Or : Sym
   Repeats : ℕ → Option ℕ → Manner → Sym
@@ -50,29 +54,51 @@ unfoldable pub comment_at : List ℕ → Found
 comment_at [] = None
 comment_at (c ∷ t) = if c == 41 then Some (Skips, t) else comment_at t
 
+-- the characters of a name at the front, and the text behind them
+unfoldable pub name_at : List ℕ → List ℕ × List ℕ
+name_at [] = ([], [])
+name_at (c ∷ t) = if is_name_char c then (c ∷ (name_at t).0, (name_at t).1) else ([], c ∷ t)
+
+-- a name that ends before this character, and the text behind that
+abbrev pub name_to : ℕ → List ℕ → Option (List ℕ × List ℕ)
+name_to d t = let p = name_at t in if starts_name p.0 && begins d p.1 then Some (p.0, rest_of p.1) else None
+
+-- a group with a name
+abbrev pub named_at : ℕ → Options → List ℕ → Found
+named_at d o t = name_to d t >>= λ p. Some (Open Captures (Some p.0) o, p.1)
+
 -- what stands behind a `(?<`
-unfoldable pub behind_at : List ℕ → Found
-behind_at [] = None
-behind_at (c ∷ t) =
-    if c == 61 then Some (Open (Looks false false), t)
-    else if c == 33 then Some (Open (Looks false true), t)
-    else None
+unfoldable pub behind_at : Options → List ℕ → Found
+behind_at o [] = None
+behind_at o (c ∷ t) =
+    if c == 61 then Some (Open (Looks false false) None o, t)
+    else if c == 33 then Some (Open (Looks false true) None o, t)
+    else named_at 62 o (c ∷ t)
+
+-- letters of options, up to a `:` or a `)`
+unfoldable pub switch_at : Bool → Options → List ℕ → Found
+switch_at on o [] = None
+switch_at on o (c ∷ t) =
+    if c == 58 then Some (Open Groups None o, t)
+    else if c == 41 then Some (Switches o, t)
+    else letter on o c >>= λ l. switch_at l.0 l.1 t
+
+-- what stands behind a `(?`
+unfoldable pub groups_at : Options → List ℕ → Found
+groups_at o [] = None
+groups_at o (c ∷ t) =
+    if c == 62 then Some (Open Keeps None o, t)
+    else if c == 61 then Some (Open (Looks true false) None o, t)
+    else if c == 33 then Some (Open (Looks true true) None o, t)
+    else if c == 60 then behind_at o t
+    else if c == 39 then named_at 39 o t
+    else if c == 35 then comment_at t
+    else switch_at true o (c ∷ t)
 
 -- what stands behind a `(`
-unfoldable pub open_at : List ℕ → Found
-open_at [] = Some (Open Captures, [])
-open_at (c ∷ t) = if c == 63 then groups_at t else Some (Open Captures, c ∷ t)
-  where
-    groups_at : List ℕ → Found
-    groups_at [] = None
-    groups_at (c ∷ t) =
-        if c == 58 then Some (Open Groups, t)
-        else if c == 62 then Some (Open Holds, t)
-        else if c == 61 then Some (Open (Looks true false), t)
-        else if c == 33 then Some (Open (Looks true true), t)
-        else if c == 60 then behind_at t
-        else if c == 35 then comment_at t
-        else None
+unfoldable pub open_at : Options → List ℕ → Found
+open_at o [] = Some (Open Captures None o, [])
+open_at o (c ∷ t) = if c == 63 then groups_at o t else Some (Open Captures None o, c ∷ t)
 
 -- a quantifier with these bounds, behind its sign or brace, where a `?` and a `+` set these manners
 unfoldable pub times_at : ℕ → Option ℕ → Manner → Manner → List ℕ → Found
@@ -132,29 +158,75 @@ abbrev pub means : Option Tree → List ℕ → Found
 means None t = None
 means (Some tree) t = Some (Means (leaf tree), t)
 
+-- what a reference means, if there is one
+abbrev pub refers : Option Names → Options → Key → List ℕ → Found
+refers names o key t = means (option_map (back_tree o) (meant_in names key)) t
+
+-- a reference by number
+abbrev pub numbered : Option Names → Options → Option ℕ → List ℕ → Found
+numbered names o None t = None
+numbered names o (Some n) t = refers names o (Number n) t
+
+-- digits behind a backslash
+abbrev pub digits_ref : Option Names → Options → List ℕ → Found
+digits_ref names o t = let p = number_at (Some 0) t in numbered names o p.0 p.1
+
+-- what stands behind a `\k<` before a digit
+abbrev pub number_ref : Option Names → Options → List ℕ → Found
+number_ref names o t = let p = number_at (Some 0) t in if begins 62 p.1 then numbered names o p.0 (rest_of p.1) else None
+
+-- a name behind a `\k<` or a `\k'`
+abbrev pub name_ref : Option Names → ℕ → Options → List ℕ → Found
+name_ref names d o t = name_to d t >>= λ p. refers names o (Name p.0) p.1
+
+-- what stands behind a `\k`
+unfoldable pub keyed_at : Option Names → Options → List ℕ → Found
+keyed_at names o [] = None
+keyed_at names o (c ∷ t) =
+    if c == 60 then (if begins_digit t then number_ref names o t else name_ref names 62 o t)
+    else if c == 39 then name_ref names 39 o t
+    else None
+
+-- a reference behind a backslash
+abbrev pub reference_at : Option Names → Options → List ℕ → Found
+reference_at names o [] = digits_ref names o []
+reference_at names o (c ∷ t) = if c == 107 then keyed_at names o t else digits_ref names o (c ∷ t)
+
 -- what stands behind a backslash
-unfoldable pub escape_at : Options → List ℕ → Found
-escape_at o [] = None
-escape_at o (c ∷ t) = means (escape_tree o c) t
+unfoldable pub escape_at : Option Names → Options → List ℕ → Found
+escape_at names o [] = None
+escape_at names o (c ∷ t) = if begins_reference c then reference_at names o (c ∷ t) else means (escape_tree o c) t
 
 -- a class, if there is one
 abbrev pub means_class : Option ((Bool × List Member) × List ℕ) → Found
 means_class None = None
 means_class (Some x) = Some (Means (class_built x.0.0 x.0.1), x.1)
 
--- a quantifier, or a character or sign that stands alone
+-- the end of the line
+unfoldable pub line_end : List ℕ → List ℕ
+line_end [] = []
+line_end (c ∷ t) = if c == 10 then c ∷ t else line_end t
+
+-- bounds, or a character or sign that stands alone
+abbrev pub bounds_or : Options → ℕ → List ℕ → Found
+bounds_or o c t = if (c == 123) && bounds_at t then braces_at (interval_at t) else means (single_tree o c) t
+
+-- a quantifier, or what is skipped, or a character
 abbrev pub sign_or : Options → Option (ℕ × Option ℕ) → ℕ → List ℕ → Found
-sign_or o None c t = if (c == 123) && bounds_at t then braces_at (interval_at t) else means (single_tree o c) t
+sign_or o None c t =
+    if o.extended && is_blank c then Some (Skips, t)
+    else if o.extended && (c == 35) then Some (Skips, line_end t)
+    else bounds_or o c t
 sign_or o (Some bounds) c t = times_at bounds.0 bounds.1 Lazy Possessive t
 
--- the first thing of the text
-unfoldable pub token_at : Options → List ℕ → Found
-token_at o [] = None
-token_at o (c ∷ t) =
-    if c == 40 then open_at t
+-- the first thing of the text, where the pattern has these groups
+unfoldable pub token_at : Option Names → Options → List ℕ → Found
+token_at names o [] = None
+token_at names o (c ∷ t) =
+    if c == 40 then open_at o t
     else if c == 41 then Some (Close, t)
     else if c == 124 then Some (Or, t)
-    else if c == 92 then escape_at o t
+    else if c == 92 then escape_at names o t
     else if c == 91 then means_class (class_at t)
     else sign_or o (sign_bounds c) c t
 
@@ -203,10 +275,22 @@ level_built level = alts_built (level.done ++ row_built level.row ∷ [])
 abbrev pub within : Built → Option Built
 within b = if nat_le b.height 200 then Some b else None
 
+-- options that were set made the group
+abbrev pub is_set : Opener → Bool
+is_set Sets = true
+is_set opener = false
+
+-- the groups that options made end with the group around them
+unfoldable pub settled : List Level → Level → Option (List Level × Level)
+settled [] top = Some ([], top)
+settled (l ∷ outer) top =
+    if is_set top.opener then (within (enclosed top.opener top.number (level_built top)) >>= λ b. settled outer (added l b))
+    else Some (l ∷ outer, top)
+
 -- the state behind a `)`
-abbrev pub close_in : List Level → Level → ℕ → Option State
-close_in [] top opened = None
-close_in (l ∷ outer) top opened =
+abbrev pub close_in : ℕ → List Level × Level → Option State
+close_in opened ([], top) = None
+close_in opened (l ∷ outer, top) =
     within (enclosed top.opener top.number (level_built top)) >>= λ b. Some (record { outer = outer; top = added l b; opened = opened })
 
 -- the list with its last element changed
@@ -219,18 +303,20 @@ change_last f (t ∷ u ∷ ts) = option_map (λ us. t ∷ us) (change_last f (u 
 abbrev pub more_times : ℕ → Option ℕ → Manner → Built → Option Built
 more_times least greatest manner b = within (quantified least greatest manner b)
 
+-- the state in a level inside
+abbrev pub entered : Opener → ℕ → Options → State → State
+entered k opened o s = record { outer = s.top ∷ s.outer; top = fresh k opened o; opened = opened }
+
 -- the state behind an opening, if there are not too many groups
-abbrev pub open_in : Opener → State → Option State
-open_in k s =
-    if nat_le (s.opened + count k) 1000
-    then Some (record { outer = s.top ∷ s.outer; top = fresh k (s.opened + count k) s.top.options; opened = s.opened + count k })
-    else None
+abbrev pub open_in : Opener → Options → State → Option State
+open_in k o s = let opened = s.opened + count k in if nat_le opened 1000 then Some (entered k opened o s) else None
 
 -- the state behind one more thing
 unfoldable pub step : Sym → State → Option State
 step (Means part) s = Some (record { outer = s.outer; top = added s.top part; opened = s.opened })
-step (Open k) s = open_in k s
-step Close s = close_in s.outer s.top s.opened
+step (Open k name o) s = open_in k o s
+step (Switches o) s = Some (entered Sets s.opened o s)
+step Close s = settled s.outer s.top >>= close_in s.opened
 step Or s = Some (record { outer = s.outer; top = next_row s.top; opened = s.opened })
 step (Repeats least greatest manner) s =
     option_map (λ row. record { outer = s.outer; top = with_row s.top row; opened = s.opened })
@@ -242,25 +328,60 @@ abbrev pub advancing : Built → Option Tree
 advancing b = if b.takes then Some b.tree else None
 
 -- the tree, where no group is open
-abbrev pub finish_in : List Level → Level → Option Tree
-finish_in [] top = within (level_built top) >>= advancing
-finish_in (level ∷ outer) top = None
+abbrev pub finish_in : List Level × Level → Option Tree
+finish_in ([], top) = within (level_built top) >>= advancing
+finish_in (level ∷ outer, top) = None
 
 -- the tree at the end of the text
 abbrev pub finish : State → Option Tree
-finish s = finish_in s.outer s.top
+finish s = settled s.outer s.top >>= finish_in
 
--- the tree of the text from a state on, in so many steps at most
-unfoldable pub read : ℕ → State → List ℕ → Option Tree
-read zero s [] = finish s
-read zero s (c ∷ t) = None
-read (suc n) s [] = finish s
-read (suc n) s (c ∷ t) = token_at s.top.options (c ∷ t) >>= λ y. step y.0 s >>= λ next. read n next y.1
+-- the tree of the text from a state on, in so many steps at most, where the pattern has these groups
+unfoldable pub read : Option Names → ℕ → State → List ℕ → Option Tree
+read names zero s [] = finish s
+read names zero s (c ∷ t) = None
+read names (suc n) s [] = finish s
+read names (suc n) s (c ∷ t) = token_at names s.top.options (c ∷ t) >>= λ y. step y.0 s >>= λ next. read names n next y.1
 
 -- the tree of the text from a state on
-abbrev pub onward : State → List ℕ → Option Tree
-onward s t = read (length t) s t
+abbrev pub onward : Option Names → State → List ℕ → Option Tree
+onward names s t = read names (length t) s t
 
--- the tree of a text, if it is a pattern
+-- What is read first: the capturing groups alone, under the options of the group that is open and of
+-- those around.
+pub record Outline : Type 0 where
+  -- the options of the groups around, the nearest first
+  pub outer : List Options
+  pub top : Options
+  pub names : Names
+
+-- before the first thing
+abbrev pub outline_start : Outline
+outline_start = record { outer = []; top = no_options; names = [] }
+
+-- behind a `)`
+abbrev pub outline_close : List Options → Names → Option Outline
+outline_close [] names = None
+outline_close (o ∷ outer) names = Some (record { outer = outer; top = o; names = names })
+
+-- behind one more thing
+abbrev pub outline_step : Sym → Outline → Option Outline
+outline_step (Open k name o) s = Some (record { outer = s.top ∷ s.outer; top = o; names = s.names ++ begun k name })
+outline_step (Switches o) s = Some (record { outer = s.outer; top = o; names = s.names })
+outline_step Close s = outline_close s.outer s.names
+outline_step _ s = Some s
+
+-- the groups of the text from there on
+unfoldable pub names_read : ℕ → Outline → List ℕ → Option Names
+names_read n s [] = Some s.names
+names_read zero s (c ∷ t) = None
+names_read (suc n) s (c ∷ t) = token_at None s.top (c ∷ t) >>= λ y. outline_step y.0 s >>= λ next. names_read n next y.1
+
+-- the groups of a text
+abbrev pub names_onward : Outline → List ℕ → Option Names
+names_onward s t = names_read (length t) s t
+
+-- the tree of a text, if it is a pattern: first its groups are read, since a reference may stand before
+-- its group
 abbrev pub parsed : List ℕ → Option Tree
-parsed t = if nat_le (length t) 65536 then onward start t else None
+parsed t = if nat_le (length t) 65536 then (names_onward outline_start t >>= λ names. onward (Some names) start t) else None

@@ -1,8 +1,9 @@
 -- What the program's values stand for.
-use Rattle.std.specs.Prelude.{◌≡◌, List, map, reverse, Option, Some, None, Result, Ok, Err}
+use Rattle.std.specs.Prelude.{◌≡◌, ℕ, List, map, reverse, Option, Some, None, option_map, Vec, Result, Ok, Err}
+use Rattle.std.specs.declared.alloc.Global.{Global}
 use Rattle.tm_onig_class.specs.Tree.{tree_of}
 use Rattle.tm_onig_parse.specs.Meaning.{Built}
-use Rattle.tm_onig_parse.specs.Reading.{Sym, Means, Open, Close, Or, Repeats, Skips, Level, State}
+use Rattle.tm_onig_parse.specs.Reading.{Sym, Means, Open, Switches, Close, Or, Repeats, Skips, Level, State, Outline}
 use Rattle.tm_onig_parse.specs.declared.ParseFault.{ParseFault}
 use Rattle.tm_onig_parse.specs.declared.ParseFault.TheVariants.{Unreadable, OutOfMemory}
 use Rattle.tm_onig_parse.specs.declared.tokens.Token.{Token}
@@ -10,6 +11,10 @@ use Rattle.tm_onig_parse.specs.declared.tokens.Token.TheVariants as T
 use Rattle.tm_onig_parse.specs.declared.part.Part.{Part}
 use Rattle.tm_onig_parse.specs.declared.groups.Frame.{Frame}
 use Rattle.tm_onig_parse.specs.declared.reader.Reader.{Reader}
+use Rattle.tm_onig_parse.specs.declared.names.GroupNames.{GroupNames}
+use Rattle.tm_onig_parse.specs.declared.names.GroupNames.TheVariants as N
+use Rattle.tm_onig_parse.specs.declared.outlines.Outlines.{Outlines}
+use Rattle.tm_onig_parse.specs.Names.{Names}
 
 -- It fails as reading fails, unless memory ran out.
 abbrev pub Fails : {Y : Type 0} → ParseFault → Option Y → Type 0
@@ -30,10 +35,20 @@ Steps (Err fault) new read = Fails fault read
 abbrev pub built_of : Part → Built
 built_of p = record { tree = tree_of p.pattern; height = p.height; repeated = p.repeated; takes = p.takes }
 
+-- a group's name, if it has one
+abbrev pub name_of_chars : Option (Vec ℕ Global) → Option (List ℕ)
+name_of_chars = option_map (λ v. v.items)
+
+-- the groups, where they are known
+abbrev pub names_known : GroupNames → Option Names
+names_known N.Unread = None
+names_known (N.Read names) = Some (map name_of_chars names.items)
+
 -- what a token stands for
 abbrev pub sym_of_token : Token → Sym
 sym_of_token (T.Means part) = Means (built_of part)
-sym_of_token (T.Open opener) = Open opener
+sym_of_token (T.Open opener name options) = Open opener (name_of_chars name) options
+sym_of_token (T.Switches options) = Switches options
 sym_of_token T.Close = Close
 sym_of_token T.Or = Or
 sym_of_token (T.Repeats least greatest manner) = Repeats least greatest manner
@@ -50,3 +65,7 @@ levels_of frames = reverse (map level_of_frame frames)
 -- what a reader stands for
 abbrev pub state_of_reader : Reader → State
 state_of_reader r = record { outer = levels_of r.outer.items; top = level_of_frame r.top; opened = r.opened }
+
+-- what is known of a text's groups so far
+abbrev pub outline_of : Outlines → Outline
+outline_of r = record { outer = reverse r.outer.items; top = r.top; names = map name_of_chars r.names.items }

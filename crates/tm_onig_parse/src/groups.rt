@@ -17,8 +17,10 @@ pub enum Opener {
     Captures,
     /// `(?:`
     Groups,
+    /// Options that are set to the end of the group around: `a(?i)b` is `a(?i:b)`.
+    Sets,
     /// `(?>`: only its first success counts.
-    Holds,
+    Keeps,
     /// `(?=`, `(?!`, `(?<=`, `(?<!`: it takes no character.
     Looks { ahead: bool, negative: bool },
 }

@@ -89,7 +89,7 @@ fn longer(number: Option<u32>, digit: u32) -> Option<u32>
 
 /// The number at the front, if it is not above the limit, and what stands behind it.
 #[tactic(auto, unfolding(crate::specs::Reading::number_at))]
-fn number(text: &[char]) -> (Option<u32>, &[char])
+pub fn number(text: &[char]) -> (Option<u32>, &[char])
     ensures { (result.0, result.1.now) ≡ number_at (Some 0) text.now }
 {
     let mut value = Some(0);

@@ -8,7 +8,7 @@
 ghost use Rattle.std.specs.Prelude.{◌≡◌, ℕ, List, IfOk, Some};
 ghost use Rattle.tm_onig_class.specs.Groups.{IsNumbered};
 ghost use Rattle.tm_onig_class.specs.Tree.{Tree, tree_of};
-ghost use Rattle.tm_onig_parse.specs.Grammar.{Alts};
+ghost use Rattle.tm_onig_parse.specs.Grammar.{Body};
 ghost use Rattle.tm_onig_parse.specs.Meaning.{Spells, meaning};
 ghost use Rattle.tm_onig_parse.specs.Reading.{parsed};
 ghost use Rattle.tm_onig_parse.specs.Views.{Gives};
@@ -17,11 +17,15 @@ mod class_sets;
 mod classes;
 mod groups;
 mod intervals;
+mod names;
+mod openings;
 mod options;
+mod outlines;
 mod part;
 mod parts;
 mod quantifiers;
 mod reader;
+mod references;
 mod tokens;
 
 use std::alloc::Global;
@@ -41,9 +45,9 @@ pub enum ParseFault {
 /// capture, 200 groups, looks, classes and repeated quantifiers within one another.
 pub fn parse(alloc: Global, text: &Name) -> Result<Pattern, ParseFault>
     // What is read is spelled so, and means this tree.
-    ensures found { IfOk result (λ pattern. (alts : Alts) × Spells text.now alts × (tree_of pattern ≡ meaning alts)) }
+    ensures found { IfOk result (λ pattern. (body : Body) × Spells text.now body × (tree_of pattern ≡ meaning body)) }
     // What is spelled so is read, unless memory runs out.
-    ensures only { (alts : Alts) → Spells text.now alts → Gives tree_of result (Some (meaning alts)) }
+    ensures only { (body : Body) → Spells text.now body → Gives tree_of result (Some (meaning body)) }
     // Its groups are numbered from 1 in the order of their opening.
     ensures numbered { IfOk result (λ pattern. IsNumbered (tree_of pattern)) }
     // The same as a function of the text.
@@ -55,8 +59,8 @@ pub fn parse(alloc: Global, text: &Name) -> Result<Pattern, ParseFault>
 /// What is read of a text, as a function, is what the grammar says: the tree that the text means where
 /// it is a pattern, and none where it is not.
 pub fn reading_is_by_the_grammar()
-    ensures found { (text : List ℕ) (tree : Tree) → parsed text ≡ Some tree → (alts : Alts) × Spells text alts × (tree ≡ meaning alts) }
-    ensures only { (text : List ℕ) (alts : Alts) → Spells text alts → parsed text ≡ Some (meaning alts) }
+    ensures found { (text : List ℕ) (tree : Tree) → parsed text ≡ Some tree → (body : Body) × Spells text body × (tree ≡ meaning body) }
+    ensures only { (text : List ℕ) (body : Body) → Spells text body → parsed text ≡ Some (meaning body) }
 {}
 
 #[cfg(test)]

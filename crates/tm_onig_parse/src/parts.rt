@@ -180,8 +180,8 @@ pub fn group(alloc: Global, opener: Opener, number: u32, body: Part) -> Result<P
             };
             Ok(enclosing(Pattern::Group { number, body }, height, takes))
         }
-        Opener::Groups => Ok(enclosing(pattern, height, takes)),
-        Opener::Holds => {
+        Opener::Groups | Opener::Sets => Ok(enclosing(pattern, height, takes)),
+        Opener::Keeps => {
             let Ok(body) = Box::new(alloc, pattern) else {
                 return Err(ParseFault::OutOfMemory);
             };

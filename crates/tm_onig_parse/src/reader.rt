@@ -1,11 +1,15 @@
 //! The stack of open groups, and the loop over a text.
-ghost use Rattle.std.specs.Prelude.{◌≡◌, ◌≤◌, ◌+◌, ◌∷◌, Some, map};
+ghost use Rattle.std.specs.Prelude.{OnOk, ◌≡◌, ◌≤◌, ◌+◌, ◌∷◌, Some, map};
 ghost use Rattle.tm_onig_class.specs.Tree.{tree_of};
-ghost use Rattle.tm_onig_parse.specs.Grammar.{count};
-ghost use Rattle.tm_onig_parse.specs.Reading.{step, change_last, more_times, close_in, open_in, finish, start, onward, parsed};
-ghost use Rattle.tm_onig_parse.specs.Views.{Gives, Steps, built_of, level_of_frame, state_of_reader, sym_of_token};
+ghost use Rattle.tm_onig_parse.specs.Things.{count};
+ghost use Rattle.tm_onig_parse.specs.Reading.{Close, step, change_last, more_times, is_set, settled, close_in, entered, open_in, finish_in, finish, start, onward, parsed};
+ghost use Rattle.tm_onig_parse.specs.declared.groups.Opener.TheVariants.{Sets};
+ghost use Rattle.tm_onig_parse.specs.Views.{Gives, Steps, built_of, level_of_frame, names_known, state_of_reader, sym_of_token};
 
 use crate::groups::{Frame, Opener, end_row, fresh, whole};
+use crate::names::GroupNames;
+use crate::options::Options;
+use crate::outlines::group_names;
 use crate::part::Part;
 use crate::parts::{group, push};
 use crate::quantifiers::{Manner, quantify};
@@ -69,26 +73,39 @@ fn count(opener: Opener) -> u32
 {
     match opener {
         Opener::Captures => 1,
-        Opener::Groups | Opener::Holds | Opener::Looks { .. } => 0,
+        Opener::Groups | Opener::Sets | Opener::Keeps | Opener::Looks { .. } => 0,
     }
 }
 
 /// Begins a group.
-fn open(alloc: Global, reader: &mut Reader, opener: Opener) -> Result<(), ParseFault>
-    ensures { Steps result (state_of_reader reader.new) (open_in opener (state_of_reader reader.old)) }
+fn open(
+    alloc: Global,
+    reader: &mut Reader,
+    opener: Opener,
+    options: Options,
+) -> Result<(), ParseFault>
+    ensures { Steps result (state_of_reader reader.new) (open_in opener options (state_of_reader reader.old)) }
 {
     let more = count(opener);
     if reader.opened > MOST_GROUPS - more {
         return Err(ParseFault::Unreadable);
     }
     reader.opened += more;
-    let inner = fresh(alloc, opener, reader.opened, reader.top.options);
+    let inner = fresh(alloc, opener, reader.opened, options);
     enter(reader, inner)
 }
 
-/// Ends a group.
+/// Sets options to the end of the group.
+fn switch(alloc: Global, reader: &mut Reader, options: Options) -> Result<(), ParseFault>
+    ensures { let old = state_of_reader reader.old in Steps result (state_of_reader reader.new) (Some (entered Sets old.opened options old)) }
+{
+    let inner = fresh(alloc, Opener::Sets, reader.opened, options);
+    enter(reader, inner)
+}
+
+/// Ends the group that is open.
 fn leave(alloc: Global, reader: &mut Reader) -> Result<(), ParseFault>
-    ensures { let old = state_of_reader reader.old in Steps result (state_of_reader reader.new) (close_in old.outer old.top old.opened) }
+    ensures { let old = state_of_reader reader.old in Steps result (state_of_reader reader.new) (close_in old.opened (old.outer, old.top)) }
 {
     let Some(outer) = reader.outer.pop() else {
         return Err(ParseFault::Unreadable);
@@ -106,6 +123,40 @@ fn leave(alloc: Global, reader: &mut Reader) -> Result<(), ParseFault>
     }
 }
 
+/// Whether options that were set made the group.
+fn is_set(opener: Opener) -> bool
+    ensures { result ≡ is_set opener }
+{
+    match opener {
+        Opener::Sets => true,
+        Opener::Captures | Opener::Groups | Opener::Keeps | Opener::Looks { .. } => false,
+    }
+}
+
+/// Ends the groups that options made, up to one of another kind or the whole pattern.
+fn settle(alloc: Global, reader: &mut Reader) -> Result<(), ParseFault>
+    ensures pair { let old = state_of_reader reader.old in let new = state_of_reader reader.new in
+        Steps result (new.outer, new.top) (settled old.outer old.top) }
+    ensures opened { OnOk result (reader.new.opened ≡ reader.old.opened) }
+{
+    while is_set(reader.top.opener) && !reader.outer.is_empty() {
+        if let Err(fault) = leave(alloc, reader) {
+            return Err(fault);
+        }
+    }
+    Ok(())
+}
+
+/// Ends a group at its `)`.
+fn close(alloc: Global, reader: &mut Reader) -> Result<(), ParseFault>
+    ensures { Steps result (state_of_reader reader.new) (step Close (state_of_reader reader.old)) }
+{
+    match settle(alloc, reader) {
+        Ok(()) => leave(alloc, reader),
+        Err(fault) => Err(fault),
+    }
+}
+
 /// Goes on by one thing.
 #[tactic(auto, unfolding(crate::specs::Reading::step))]
 fn take(alloc: Global, reader: &mut Reader, token: Token) -> Result<(), ParseFault>
@@ -113,8 +164,13 @@ fn take(alloc: Global, reader: &mut Reader, token: Token) -> Result<(), ParseFau
 {
     match token {
         Token::Means(part) => push(&mut reader.top.row, part),
-        Token::Open(opener) => open(alloc, reader, opener),
-        Token::Close => leave(alloc, reader),
+        Token::Open {
+            opener,
+            name: _,
+            options,
+        } => open(alloc, reader, opener, options),
+        Token::Switches(options) => switch(alloc, reader, options),
+        Token::Close => close(alloc, reader),
         Token::Or => end_row(alloc, &mut reader.top),
         Token::Repeats {
             least,
@@ -125,9 +181,9 @@ fn take(alloc: Global, reader: &mut Reader, token: Token) -> Result<(), ParseFau
     }
 }
 
-/// Ends the pattern.
-fn end(alloc: Global, reader: Reader) -> Result<Pattern, ParseFault>
-    ensures { Gives tree_of result (finish (state_of_reader reader)) }
+/// The pattern of a reader whose groups that options made have ended.
+fn finished(alloc: Global, reader: Reader) -> Result<Pattern, ParseFault>
+    ensures { let s = state_of_reader reader in Gives tree_of result (finish_in (s.outer, s.top)) }
 {
     let Reader {
         outer,
@@ -149,9 +205,19 @@ fn end(alloc: Global, reader: Reader) -> Result<Pattern, ParseFault>
     }
 }
 
-/// The pattern that the text spells, however long it is.
-fn read_all(alloc: Global, text: &[char]) -> Result<Pattern, ParseFault>
-    ensures { Gives tree_of result (onward start text.now) }
+/// Ends the pattern.
+fn end(alloc: Global, mut reader: Reader) -> Result<Pattern, ParseFault>
+    ensures { Gives tree_of result (finish (state_of_reader reader)) }
+{
+    match settle(alloc, &mut reader) {
+        Ok(()) => finished(alloc, reader),
+        Err(fault) => Err(fault),
+    }
+}
+
+/// The pattern that the text spells, however long it is, where it has these groups.
+fn read_all(alloc: Global, groups: &GroupNames, text: &[char]) -> Result<Pattern, ParseFault>
+    ensures { Gives tree_of result (onward (names_known groups.now) start text.now) }
 {
     let mut reader = Reader {
         outer: Vec::new(alloc),
@@ -160,7 +226,7 @@ fn read_all(alloc: Global, text: &[char]) -> Result<Pattern, ParseFault>
     };
     let mut rest = text;
     while !rest.is_empty() {
-        let (token, after) = match next_token(alloc, reader.top.options, rest) {
+        let (token, after) = match next_token(alloc, groups, reader.top.options, rest) {
             Ok(found) => found,
             Err(fault) => return Err(fault),
         };
@@ -176,9 +242,11 @@ fn read_all(alloc: Global, text: &[char]) -> Result<Pattern, ParseFault>
 pub fn read(alloc: Global, text: &[char]) -> Result<Pattern, ParseFault>
     ensures { Gives tree_of result (parsed text.now) }
 {
-    if text.len() <= LONGEST {
-        read_all(alloc, text)
-    } else {
-        Err(ParseFault::Unreadable)
+    if text.len() > LONGEST {
+        return Err(ParseFault::Unreadable);
+    }
+    match group_names(alloc, text) {
+        Ok(names) => read_all(alloc, &GroupNames::Read(names), text),
+        Err(fault) => Err(fault),
     }
 }

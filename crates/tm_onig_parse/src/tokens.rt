@@ -1,32 +1,41 @@
 //! The smallest things that are written, one at a time.
-ghost use Rattle.std.specs.Prelude.{◌≡◌, nat_lt, option_map, Some};
+ghost use Rattle.std.specs.Prelude.{◌≡◌, option_map, Some};
 ghost use Rattle.tm_onig_class.specs.Tree.{tree_of};
 ghost use Rattle.tm_onig_parse.specs.Characters.{single_tree, escape_tree, letter_tree, set_or_char, set_letter, escaped_char, place_letter};
-ghost use Rattle.tm_onig_parse.specs.Grammar.{sign_bounds};
+ghost use Rattle.tm_onig_parse.specs.Things.{sign_bounds};
 ghost use Rattle.tm_onig_parse.specs.Meaning.{leaf};
 ghost use Rattle.tm_onig_parse.specs.ClassReading.{class_at};
-ghost use Rattle.tm_onig_parse.specs.Reading.{Open, comment_at, token_at, open_at, times_at, lazily_exact, interval_at, braces_at, escape_at, sign_or, means_class};
-ghost use Rattle.tm_onig_parse.specs.declared.groups.Opener.TheVariants.{Looks};
-ghost use Rattle.tm_onig_parse.specs.Views.{Gives, sym_of_token, built_of};
+ghost use Rattle.tm_onig_parse.specs.Reading.{token_at, times_at, lazily_exact, interval_at, braces_at, escape_at, line_end, bounds_or, sign_or, means_class};
+ghost use Rattle.tm_onig_parse.specs.Views.{Gives, sym_of_token, built_of, names_known};
 
 use crate::ParseFault;
 use crate::class_sets::{class_part, letter_set};
 use crate::classes::{class, escaped, letter};
 use crate::groups::Opener;
 use crate::intervals::{bounds, interval};
+use crate::names::GroupNames;
+use crate::openings::open;
 use crate::options::Options;
 use crate::part::Part;
 use crate::parts::leaf;
 use crate::quantifiers::Manner;
+use crate::references::{begins_reference, reference};
 use std::alloc::Global;
-use tm_onig_class::listed::Listed;
+use tm_onig_class::listed::{Listed, is_space};
 use tm_onig_class::patterns::{Pattern, Position};
 
 /// One thing that is written, by what it means.
 #[derive(Drop)]
 pub enum Token {
     Means(Part),
-    Open(Opener),
+    Open {
+        opener: Opener,
+        name: Option<Vec<char>>,
+        /// Those that hold inside.
+        options: Options,
+    },
+    /// Options that hold to the end of the group around.
+    Switches(Options),
     Close,
     Or,
     Repeats {
@@ -34,7 +43,7 @@ pub enum Token {
         greatest: Option<u32>,
         manner: Manner,
     },
-    /// A comment.
+    /// What means nothing.
     Skips,
 }
 
@@ -64,7 +73,7 @@ fn single(options: Options, c: char) -> Option<Part>
 }
 
 /// The bounds of a quantifier's sign.
-#[tactic(auto, unfolding(crate::specs::Grammar::sign_bounds))]
+#[tactic(auto, unfolding(crate::specs::Things::sign_bounds))]
 fn sign(c: char) -> Option<(u32, Option<u32>)>
     ensures { result ≡ sign_bounds c }
 {
@@ -73,45 +82,6 @@ fn sign(c: char) -> Option<(u32, Option<u32>)>
         '*' => Some((0, None)),
         '+' => Some((1, None)),
         _ => None,
-    }
-}
-
-/// What follows `(?#`: up to the next `)` it means nothing.
-#[tactic(auto, unfolding(crate::specs::Reading::comment_at))]
-fn comment(text: &[char]) -> Result<(Token, &[char]), ParseFault>
-    ensures { Gives (λ x. (sym_of_token x.0, x.1.now)) result (comment_at text.now) }
-{
-    let mut rest = text;
-    loop {
-        match rest {
-            [')', after @ ..] => return Ok((Token::Skips, after)),
-            [_, after @ ..] => rest = after,
-            [] => return Err(ParseFault::Unreadable),
-        }
-    }
-}
-
-fn look(ahead: bool, negative: bool) -> Token
-    ensures { sym_of_token result ≡ Open (Looks ahead negative) }
-{
-    Token::Open(Opener::Looks { ahead, negative })
-}
-
-/// What follows `(`.
-#[tactic(auto, unfolding(crate::specs::Reading::open_at, crate::specs::Reading::behind_at))]
-fn open(text: &[char]) -> Result<(Token, &[char]), ParseFault>
-    ensures { Gives (λ x. (sym_of_token x.0, x.1.now)) result (open_at text.now) }
-{
-    match text {
-        ['?', ':', rest @ ..] => Ok((Token::Open(Opener::Groups), rest)),
-        ['?', '>', rest @ ..] => Ok((Token::Open(Opener::Holds), rest)),
-        ['?', '=', rest @ ..] => Ok((look(true, false), rest)),
-        ['?', '!', rest @ ..] => Ok((look(true, true), rest)),
-        ['?', '<', '=', rest @ ..] => Ok((look(false, false), rest)),
-        ['?', '<', '!', rest @ ..] => Ok((look(false, true), rest)),
-        ['?', '#', rest @ ..] => comment(rest),
-        ['?', ..] => Err(ParseFault::Unreadable),
-        _ => Ok((Token::Open(Opener::Captures), text)),
     }
 }
 
@@ -226,14 +196,24 @@ fn escape_part(alloc: Global, options: Options, c: char) -> Result<Part, ParseFa
 
 /// What follows a backslash.
 #[tactic(auto, unfolding(crate::specs::Reading::escape_at))]
-fn escape(alloc: Global, options: Options, text: &[char]) -> Result<(Token, &[char]), ParseFault>
-    ensures { Gives (λ x. (sym_of_token x.0, x.1.now)) result (escape_at options text.now) }
+fn escape<'a>(
+    alloc: Global,
+    groups: &GroupNames,
+    options: Options,
+    text: &'a [char],
+) -> Result<(Token, &'a [char]), ParseFault>
+    ensures { Gives (λ x. (sym_of_token x.0, x.1.now)) result (escape_at (names_known groups.now) options text.now) }
 {
     match text {
-        [c, rest @ ..] => match escape_part(alloc, options, *c) {
-            Ok(part) => Ok((Token::Means(part), rest)),
-            Err(fault) => Err(fault),
-        },
+        [c, rest @ ..] => {
+            if begins_reference(*c) {
+                return reference(alloc, groups, options, text);
+            }
+            match escape_part(alloc, options, *c) {
+                Ok(part) => Ok((Token::Means(part), rest)),
+                Err(fault) => Err(fault),
+            }
+        }
         _ => Err(ParseFault::Unreadable),
     }
 }
@@ -252,38 +232,67 @@ fn brackets(alloc: Global, text: &[char]) -> Result<(Token, &[char]), ParseFault
     }
 }
 
-/// A quantifier, or a character that stands alone, and what follows it.
+/// The end of the line.
+#[tactic(auto, unfolding(crate::specs::Reading::line_end))]
+fn line_end(text: &[char]) -> &[char]
+    ensures { result.now ≡ line_end text.now }
+{
+    let mut rest = text;
+    loop {
+        match rest {
+            ['\n', ..] => return rest,
+            [_, after @ ..] => rest = after,
+            [] => return rest,
+        }
+    }
+}
+
+/// Bounds, or a character that stands alone, and what follows.
+fn bounds_or(options: Options, c: char, text: &[char]) -> Result<(Token, &[char]), ParseFault>
+    ensures { Gives (λ x. (sym_of_token x.0, x.1.now)) result (bounds_or options c text.now) }
+{
+    if c == '{' && bounds(text) {
+        return braces(text);
+    }
+    match single(options, c) {
+        Some(part) => Ok((Token::Means(part), text)),
+        None => Err(ParseFault::Unreadable),
+    }
+}
+
+/// A quantifier, or what is skipped, or a character that stands alone, and what follows it.
 fn sign_or(options: Options, c: char, text: &[char]) -> Result<(Token, &[char]), ParseFault>
     ensures { Gives (λ x. (sym_of_token x.0, x.1.now)) result (sign_or options (sign_bounds c) c text.now) }
 {
     match sign(c) {
         Some((least, greatest)) => times(least, greatest, Manner::Lazy, Manner::Possessive, text),
         None => {
-            if c == '{' && bounds(text) {
-                return braces(text);
+            if options.extended && is_space(c) {
+                return Ok((Token::Skips, text));
             }
-            match single(options, c) {
-                Some(part) => Ok((Token::Means(part), text)),
-                None => Err(ParseFault::Unreadable),
+            if options.extended && c == '#' {
+                return Ok((Token::Skips, line_end(text)));
             }
+            bounds_or(options, c, text)
         }
     }
 }
 
-/// The first thing of the text, and what follows it.
+/// The first thing of the text, and what follows it, where the pattern has these groups.
 #[tactic(auto, unfolding(crate::specs::Reading::token_at))]
-pub fn next_token(
+pub fn next_token<'a>(
     alloc: Global,
+    groups: &GroupNames,
     options: Options,
-    text: &[char],
-) -> Result<(Token, &[char]), ParseFault>
-    ensures { Gives (λ x. (sym_of_token x.0, x.1.now)) result (token_at options text.now) }
+    text: &'a [char],
+) -> Result<(Token, &'a [char]), ParseFault>
+    ensures { Gives (λ x. (sym_of_token x.0, x.1.now)) result (token_at (names_known groups.now) options text.now) }
 {
     match text {
-        ['(', rest @ ..] => open(rest),
+        ['(', rest @ ..] => open(alloc, options, rest),
         [')', rest @ ..] => Ok((Token::Close, rest)),
         ['|', rest @ ..] => Ok((Token::Or, rest)),
-        ['\\', rest @ ..] => escape(alloc, options, rest),
+        ['\\', rest @ ..] => escape(alloc, groups, options, rest),
         ['[', rest @ ..] => brackets(alloc, rest),
         [c, rest @ ..] => sign_or(options, *c, rest),
         [] => Err(ParseFault::Unreadable),

@@ -1,6 +1,6 @@
 use Rattle.std.proofs.Common.{◌≡◌, length}
 use Rattle.tm_onig_parse.specs.Reading.{comment_at}
-use Rattle.tm_onig_parse.proofs.tokens.comment.Given as goal
+use Rattle.tm_onig_parse.proofs.openings.comment.Given as goal
 
 abbrev pub invariant-loop-rest : goal.invariant-loop-rest
 invariant-loop-rest l = comment_at l.rest ≡ comment_at l.text
