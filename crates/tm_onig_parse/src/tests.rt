@@ -1,5 +1,5 @@
 ghost use Rattle.std.specs.Prelude.{IfOk, IsTrue, ◌↔◌};
-ghost use Rattle.tm_onig_parse.specs.Grammar.{Alts};
+ghost use Rattle.tm_onig_parse.specs.Grammar.{Body};
 ghost use Rattle.tm_onig_parse.specs.Meaning.{Spells};
 
 use crate::{ParseFault, parse};
@@ -12,7 +12,7 @@ use tm_onig_class::sets::Set;
 
 /// Whether the text is a pattern.
 fn is_pattern(alloc: Global, text: &Name) -> Result<bool, OutOfMemory>
-    ensures { IfOk result (λ is. IsTrue is ↔ ((alts : Alts) × Spells text.now alts)) }
+    ensures { IfOk result (λ is. IsTrue is ↔ ((body : Body) × Spells text.now body)) }
 {
     match parse(alloc, text) {
         Ok(_) => Ok(true),
@@ -24,7 +24,8 @@ fn is_pattern(alloc: Global, text: &Name) -> Result<bool, OutOfMemory>
 fn name(alloc: Global, text: &str) -> Result<Name, AllocError> {
     let mut chars = Vec::new(alloc);
     for c in text.chars() {
-        chars.push(c)?;
+        // a line break in a row of the table
+        chars.push(if c == '⏎' { '\n' } else { c })?;
     }
     Ok(Name::new(chars))
 }
@@ -80,11 +81,14 @@ fn word<'a>(
             let code = *c as u32;
             format!(in alloc; "code-{code}")
         }
-        Pattern::Char { c, fold: _ } => format!(in alloc; "'{c}"),
-        Pattern::Any { newline: _ } => format!(in alloc; "any"),
-        Pattern::Set { set, fold: _ } => {
+        Pattern::Char { c, fold: true } => format!(in alloc; "~{c}"),
+        Pattern::Char { c, fold: false } => format!(in alloc; "'{c}"),
+        Pattern::Any { newline: true } => format!(in alloc; "any-at-all"),
+        Pattern::Any { newline: false } => format!(in alloc; "any"),
+        Pattern::Set { set, fold } => {
             let members = members(alloc, set)?;
-            format!(in alloc; "set[{members}]")
+            let folds = if *fold { "~" } else { "" };
+            format!(in alloc; "{folds}set[{members}]")
         }
         Pattern::Cat(parts) => {
             wait_for(waiting, parts.as_slice())?;
@@ -127,8 +131,16 @@ fn word<'a>(
                 None => format!(in alloc; "{how} {least}.."),
             }
         }
+        Pattern::Back { groups, fold } => {
+            let folds = if *fold { "~" } else { "" };
+            let mut text = format!(in alloc; "{folds}back")?;
+            for group in groups.as_slice() {
+                let number = format!(in alloc; "-{group}")?;
+                text.push_str(&number)?;
+            }
+            Ok(text)
+        }
         Pattern::Position(place) => format!(in alloc; "{place:?}"),
-        _ => format!(in alloc; "other"),
     }
 }
 
@@ -272,6 +284,77 @@ a(?#)(?#b)+ => times 1.. 'a
 ba+(?#c)? => row 2 'b times 0..1 times 1.. 'a
 a(?#c){2} => times 2..2 'a
 a{(?#c)2} => row 4 'a '{ '2 '}
+# options
+(?i)a => ~a
+(?i)ab => row 2 ~a ~b
+a(?i)b => row 2 'a ~b
+a(?i)b|c => row 2 'a either 2 ~b ~c
+a|(?i)b|c => either 2 'a either 2 ~b ~c
+(a(?i)b)c => row 2 group 1 row 2 'a ~b 'c
+(?i:a)b => row 2 ~a 'b
+(?:(?i)a)b => row 2 ~a 'b
+(?i)a(?-i)b => row 2 ~a 'b
+(?i)(a)(?m)(?:b.) => row 2 group 1 ~a row 2 ~b any-at-all
+(?i-i)a => 'a
+(?i)(?-i:a)b => row 2 'a ~b
+(?m). => any-at-all
+(?m:.). => row 2 any-at-all any
+(?-m). => any
+(?mi-x)a. => row 2 ~a any-at-all
+(?)a => 'a
+(?-)a => 'a
+(?-:a) => 'a
+(?i)\w => ~set[abzA09_é]
+(?i)\d+ => times 1.. ~set[09]
+a(?i) => row 2 'a empty
+(?=(?i)a)b => row 2 ahead ~a 'b
+# white space and remarks that are skipped
+(?x)a b => row 2 'a 'b
+(?x) a  => 'a
+(?x)a #c => 'a
+(?x)a#c⏎b => row 2 'a 'b
+(?x)a#c(⏎b#) => row 2 'a 'b
+(?x)a#c => 'a
+(?x)a\ b => row 3 'a '  'b
+(?x)a\#b => row 3 'a '# 'b
+(?x)[ a#] => set[a# ]
+(?x)a + => times 1.. 'a
+(?x)ba + ? => row 2 'b times 0..1 times 1.. 'a
+(?x)a #c⏎+ => times 1.. 'a
+(?x)ba +? => row 2 'b lazily 1.. 'a
+(?x:a b)c d => row 4 row 2 'a 'b 'c '  'd
+(?x)a(?-x) b => row 2 'a row 2 '  'b
+(?x)(?#c) a => 'a
+(?x)a{ 1} => row 4 'a '{ '1 '}
+(?x)a　b => row 2 'a 'b
+(?x)( a | b ) => group 1 either 2 'a 'b
+a b => row 3 'a '  'b
+a#b => row 3 'a '# 'b
+# names
+(?<n>a) => group 1 'a
+(?'n'a) => group 1 'a
+(?<n1_>a)(b) => row 2 group 1 'a group 2 'b
+(?<_>a) => group 1 'a
+(?<N>(a)b)(?<o>c) => row 2 group 1 row 2 group 2 'a 'b group 3 'c
+(?<n>a)(?<n>b) => row 2 group 1 'a group 2 'b
+(?<n>a)+ => times 1.. group 1 'a
+(?i)(?<n>a) => group 1 ~a
+# references
+(a)\1 => row 2 group 1 'a back-1
+\1(a) => row 2 back-1 group 1 'a
+(a\1) => group 1 row 2 'a back-1
+(a)\1b => row 3 group 1 'a back-1 'b
+(a)(b)\2\1 => row 4 group 1 'a group 2 'b back-2 back-1
+(a)(?:b)\1* => row 3 group 1 'a 'b times 0.. back-1
+(?i)(a)\1 => row 2 group 1 ~a ~back-1
+(?<n>a)(b)\2 => row 3 group 1 'a group 2 'b back-2
+(((((((((((a)))))))))))\11 => row 2 group 1 group 2 group 3 group 4 group 5 group 6 group 7 group 8 group 9 group 10 group 11 'a back-11
+(?<n>a)\k<n> => row 2 group 1 'a back-1
+(?'n'a)\k'n' => row 2 group 1 'a back-1
+\k<n>(?<n>a) => row 2 back-1 group 1 'a
+(?<n>a)(?<m>b)(?<n>c)\k<n> => row 4 group 1 'a group 2 'b group 3 'c back-1-3
+(a)\k<1> => row 2 group 1 'a back-1
+(a)\k<01> => row 2 group 1 'a back-1
 # braces that begin no bounds
 a{ => row 2 'a '{
 a{x} => row 4 'a '{ 'x '}
@@ -298,14 +381,9 @@ a{0} =>
 a{,2} =>
 a{2}? =>
 # what comes later
-(?i)a =>
-(?<n>a) =>
-(?<a) =>
 \Aa =>
 \Ga =>
 \z =>
-\k<a>a =>
-(a)\1 =>
 \x41 =>
 \p{L} =>
 [a&&b] =>
@@ -314,7 +392,6 @@ a{2}? =>
 [[:alpha:]] =>
 [\x41] =>
 \0a =>
-\9a =>
 [\1] =>
 \g\a =>
 \Ka =>
@@ -329,6 +406,44 @@ a{2}? =>
 \Ma =>
 [\g] =>
 [\ca] =>
+# references to groups that are not there
+\1a =>
+\9a =>
+(a)\2 =>
+(a)\10 =>
+(a)\11 =>
+(?:a)\1 =>
+(a)\99999999999999999999 =>
+(a)\k<0> =>
+(a)\k<2> =>
+(a)\k<n> =>
+(?<n>a)\k<m> =>
+(?<n>a)\k<N> =>
+\ka =>
+\k<a>a =>
+(?<n>a)\k<n =>
+(?<n>a)\k<n' =>
+(a)\k<1 =>
+(a)\k<1n> =>
+(a)\k'1' =>
+(a)\k<> =>
+# names that are none, and letters that set nothing
+(?<1n>a) =>
+(?<>a) =>
+(?<n a) =>
+(?<n'a) =>
+(?'n>a) =>
+(?<n-m>a) =>
+(?<é>a) =>
+(?<n>a =>
+(?q)a =>
+(?i--m)a =>
+(?i-:a =>
+(?i =>
+(?i)*a =>
+a(?i)* =>
+a(?i)) =>
+(?I)a =>
 # never patterns
 (?#c) =>
 (?#c =>
@@ -379,7 +494,7 @@ fn texts_and_trees(rt: HostRuntime) -> Result<(), Fail> {
             assert_eq!(rt; found.as_str(), tree, "of {text}");
         }
     }
-    assert_eq!(rt; rows, 217);
+    assert_eq!(rt; rows, 314);
     Ok(())
 }
 
