@@ -1,0 +1,4 @@
+pub mod NoOptions
+pub mod Escapes
+pub mod Reading
+pub mod Views

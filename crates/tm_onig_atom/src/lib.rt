@@ -1,0 +1,10 @@
+//! What matches by itself in a pattern: escapes, sets by name, and classes.
+#![tactic(auto)]
+
+pub mod escapes;
+mod fault;
+pub mod meanings;
+mod numbers;
+pub mod options;
+
+pub use fault::AtomFault;
