@@ -1,4 +1,5 @@
 pub mod NoOptions
 pub mod Escapes
+pub mod Widening
 pub mod Reading
 pub mod Views

@@ -6,5 +6,6 @@ mod fault;
 pub mod meanings;
 mod numbers;
 pub mod options;
+pub mod store;
 
 pub use fault::AtomFault;
