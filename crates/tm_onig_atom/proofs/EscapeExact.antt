@@ -1,17 +1,19 @@
 -- An escape is read exactly as it is spelled.
-use Rattle.std.proofs.Common.{◌≡◌, ℕ, Bool, true, false, not, cond, List, [], ◌∷◌, ◌++◌, Option, Some, None, option_map, refl, sym, ap, ◌∙◌, subst, inl, inr, ◌⊎◌, arith, append_assoc}
+use Rattle.std.proofs.Common.{◌≡◌, ℕ, ◌≤◌, Bool, true, false, not, cond, List, [], ◌∷◌, ◌++◌, Option, Some, None, option_map, refl, sym, ap, ◌∙◌, subst, inl, inr, ◌⊎◌, arith, append_assoc}
 use Rattle.std.specs.Prelude.{◌==◌}
 use Rattle.std.specs.List.{list_any}
 use Rattle.std.specs.Str.Parse.{digits_value}
 use Rattle.std.proofs.lemmas.Bool.{cases_Bool, eqb-true}
+use Rattle.std.proofs.lemmas.Bool.Decides.{nat_tests}
 use Rattle.tm_onig_class.specs.declared.names.Known.{Known}
 use Rattle.tm_onig_class.specs.Named.{known}
 use Rattle.tm_onig_class.specs.Tree.{Tree}
+use Rattle.tm_onig_class.specs.Widths.{least_width}
 use Rattle.tm_onig_atom.specs.declared.options.Options.{Options}
 use Rattle.tm_onig_atom.specs.declared.meanings.Named.{Named}
 use Rattle.tm_onig_atom.specs.declared.meanings.Meant.{Meant}
 use Rattle.tm_onig_atom.specs.declared.meanings.Meant.TheVariants.{Character, Members}
-use Rattle.tm_onig_atom.specs.Escapes.{begins, set_letter, is_no_char, escaped_char, Escape, Sign, Short, Hex, Braced, Unicode, Octal, Property, escape_text, IsEscape, meant, meant_tree, escape_tree}
+use Rattle.tm_onig_atom.specs.Escapes.{begins, set_letter, is_no_char, escaped_char, Escape, Sign, Short, Hex, Braced, Unicode, Octal, Property, escape_head, escape_text, IsEscape, meant, meant_tree, escape_tree}
 use Rattle.tm_onig_atom.specs.Reading.{◌>>=◌, by_number, digits_at, hex_at, before, named_as, name_at, caret_at, property_at, as_char, sign_or, sign_meant, rest_of, meant_at, escape_at}
 use Rattle.tm_onig_atom.proofs.Texts.{chosen, bind_ok, map_ok, differs, before_again, before_found}
 use Rattle.tm_onig_atom.proofs.Digits.{number_again, number_found, hex_again, braced_again, braced_found}
@@ -286,3 +288,53 @@ escape_found o t tree rest e =
       is = subst (IsEscape r.escape) after r.is;
       means = sym (ap (λ (p : Tree × List ℕ). p.0) m.2) ∙ ap (meant_tree o) r.means;
     }
+
+-- An escape takes one character.
+pub escape_width : (o : Options) (e : Escape) → least_width (escape_tree o e) ≡ 1
+unfolding least_width
+escape_width o e = by_meaning (meant e)
+  where
+    by_meaning : (m : Meant) → least_width (meant_tree o m) ≡ 1
+    by_meaning (Character c) = refl
+    by_meaning (Members named) = refl
+
+-- what an escaped character is not
+sign_no_digit : (c value : ℕ) → escaped_char c ≡ Some value → 49 ≤ c → c ≤ 57 → ⊥
+unfolding escaped_char is_no_char
+sign_no_digit c value e low high =
+    let a = differs escaped_char 49 refl c value e in
+    let b = differs escaped_char 50 refl c value e in
+    let d = differs escaped_char 51 refl c value e in
+    let f = differs escaped_char 52 refl c value e in
+    let g = differs escaped_char 53 refl c value e in
+    let h = differs escaped_char 54 refl c value e in
+    let i = differs escaped_char 55 refl c value e in
+    let j = differs escaped_char 56 refl c value e in
+    let k = differs escaped_char 57 refl c value e in
+    grind (arith, nat_tests)
+
+-- nor is the letter of a set
+short_no_digit : (c : ℕ) (named : Named) → set_letter c ≡ Some named → 49 ≤ c → c ≤ 57 → ⊥
+unfolding set_letter
+short_no_digit c named e low high =
+    let a = differs set_letter 49 refl c named e in
+    let b = differs set_letter 50 refl c named e in
+    let d = differs set_letter 51 refl c named e in
+    let f = differs set_letter 52 refl c named e in
+    let g = differs set_letter 53 refl c named e in
+    let h = differs set_letter 54 refl c named e in
+    let i = differs set_letter 55 refl c named e in
+    let j = differs set_letter 56 refl c named e in
+    let k = differs set_letter 57 refl c named e in
+    grind (arith, nat_tests)
+
+-- No escape begins with a digit but 0.
+pub escape_head_digit : (e : Escape) (rest : List ℕ) → IsEscape e rest → 49 ≤ escape_head e → escape_head e ≤ 57 → ⊥
+escape_head_digit (Sign c value) rest is low high = sign_no_digit c value is low high
+escape_head_digit (Short c named) rest is low high = short_no_digit c named is low high
+escape_head_digit (Hex ds) rest is low high = absurd (omega (arith, high))
+escape_head_digit (Braced ds) rest is low high = absurd (omega (arith, high))
+escape_head_digit (Unicode ds) rest is low high = absurd (omega (arith, high))
+escape_head_digit (Octal ds) rest is low high = absurd (omega (arith, low))
+escape_head_digit (Property true caret name set) rest is low high = absurd (omega (arith, high))
+escape_head_digit (Property false caret name set) rest is low high = absurd (omega (arith, high))

@@ -1,7 +1,8 @@
 //! What matches by itself in a pattern: escapes, sets by name, and classes.
 #![tactic(auto)]
 
-pub mod escapes;
+pub mod atoms;
+mod escapes;
 mod fault;
 pub mod meanings;
 mod numbers;
