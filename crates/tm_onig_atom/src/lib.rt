@@ -7,6 +7,7 @@ mod fault;
 pub mod meanings;
 mod numbers;
 pub mod options;
+mod parts;
 pub mod store;
 
 pub use fault::AtomFault;
