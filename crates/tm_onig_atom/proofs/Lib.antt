@@ -1,3 +1,5 @@
 pub mod Texts
 pub mod Digits
 pub mod EscapeExact
+pub mod Posix
+pub mod Front
