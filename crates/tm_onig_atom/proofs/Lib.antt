@@ -3,3 +3,4 @@ pub mod Digits
 pub mod EscapeExact
 pub mod Posix
 pub mod Front
+pub mod ClassExact

@@ -16,13 +16,14 @@ pub bind_ok : {A B : Type 0} (o : Option A) (f : A → Option B) (y : B) → (o 
 bind_ok None f y e = absurd cc
 bind_ok (Some x) f y e = (x, refl, e)
 
+-- one value in both
+pub some_same : {A : Type 0} (x y : A) → Some x ≡ Some y → x ≡ y
+some_same x y e = cc
+
 -- the value that was changed
 pub map_ok : {A B : Type 0} (f : A → B) (o : Option A) (y : B) → option_map f o ≡ Some y → (x : A) × (o ≡ Some x) × (f x ≡ y)
 map_ok f None y e = absurd cc
-map_ok f (Some x) y e = (x, refl, some_same e)
-  where
-    some_same : {A : Type 0} {a b : A} → Some a ≡ Some b → a ≡ b
-    some_same h = cc
+map_ok f (Some x) y e = (x, refl, some_same (f x) y e)
 
 -- a character that a table has differs from one that it lacks
 pub differs : {A : Type 0} (f : ℕ → Option A) (d : ℕ) → f d ≡ None → (c : ℕ) (x : A) → f c ≡ Some x → (c == d) ≡ false
