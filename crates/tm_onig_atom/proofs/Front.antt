@@ -16,7 +16,7 @@ use Rattle.tm_onig_atom.specs.Classes.{is_raw, Single, Raw, Slash, single_text, 
 use Rattle.tm_onig_atom.specs.ClassReading.{char_only, single_at, Fronted, range_to, after_single, after_meant, posix_at, or_opens, front_at}
 use Rattle.tm_onig_atom.proofs.Texts.{chosen, bind_ok}
 use Rattle.tm_onig_atom.proofs.EscapeExact.{ReadsEscape, meant_again, meant_found}
-use Rattle.tm_onig_atom.proofs.Posix.{NameRead, behind_open, posix_whole, posix_again, posix_found, no_posix, lacks_posix}
+use Rattle.tm_onig_atom.proofs.PosixExact.{NameRead, behind_open, posix_whole, posix_again, posix_found, no_posix, lacks_posix}
 
 -- what stands for itself is no backslash
 raw_slash : (first : Bool) (c : ℕ) → is_raw first c ≡ true → (c == 92) ≡ false

@@ -48,6 +48,10 @@ abbrev pub after_meant : Meant × List ℕ → Fronted
 after_meant (Character c, t) = after_single c t
 after_meant (Members named, t) = Some (F.Adds (M.Set named), t)
 
+-- an escape
+abbrev pub slash_at : List ℕ → Fronted
+slash_at t = meant_at t >>= after_meant
+
 -- the set with the name, where a `]` follows
 abbrev pub posix_end : Bool → List ℕ × List ℕ → Option (Named × List ℕ)
 posix_end negated x = if begins 93 x.1 then option_map (λ listed. (of_listed listed negated, rest_of x.1)) (class_name x.0) else None
@@ -73,7 +77,7 @@ or_opens t (Some x) = Some (F.Adds (M.Set x.0), x.1)
 unfoldable pub front_at : Bool → List ℕ → Fronted
 front_at first [] = None
 front_at first (c ∷ t) =
-    if c == 92 then meant_at t >>= after_meant
+    if c == 92 then slash_at t
     else if c == 91 then or_opens t (posix_at t)
     else if (c == 38) && begins 38 t then Some (F.Meets, rest_of t)
     else if is_raw first c then after_single c t

@@ -1,12 +1,13 @@
 //! Escapes: what a backslash makes of what follows it.
-ghost use Rattle.std.specs.Prelude.{◌≡◌, option_map, Some};
+ghost use Rattle.std.specs.Prelude.{◌≡◌, Some};
 ghost use Rattle.tm_onig_atom.specs.Escapes.{of_listed, set_letter, escaped_char};
-ghost use Rattle.tm_onig_atom.specs.Reading.{before, name_at, property_at, sign_meant, meant_at};
+ghost use Rattle.tm_onig_atom.specs.Reading.{name_at, property_at, sign_meant, meant_at};
 ghost use Rattle.tm_onig_atom.specs.Views.{Gives};
 
 use crate::fault::AtomFault;
 use crate::meanings::{Meant, Named};
 use crate::numbers::{by_number, hex};
+use crate::slices::before;
 use std::alloc::Global;
 use tm_onig_class::listed::Listed;
 use tm_onig_class::names::Known;
@@ -56,18 +57,6 @@ fn escaped(c: char) -> Option<char>
         'g' | 'K' | 'X' | 'R' | 'y' | 'Y' | 'N' | 'O' | 'c' | 'C' | 'M' => None,
         _ => Some(c),
     }
-}
-
-/// The characters before the next such character, and what stands behind it.
-fn before(end: char, text: &[char]) -> Option<(&[char], &[char])>
-    ensures { option_map (λ x. (x.0.now, x.1.now)) result ≡ before end text.now }
-{
-    'chars: for i in 0..text.len() {
-        if text[i] == end {
-            return Some((&text[..i], &text[i + 1..]));
-        }
-    }
-    None
 }
 
 /// What follows the `{`, or `{^`, of a set by name.

@@ -4,10 +4,13 @@
 pub mod atoms;
 mod escapes;
 mod fault;
+mod fronts;
 pub mod meanings;
 mod numbers;
 pub mod options;
 mod parts;
+mod posix;
+mod slices;
 pub mod store;
 
 pub use fault::AtomFault;

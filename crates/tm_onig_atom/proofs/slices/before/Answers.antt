@@ -1,6 +1,6 @@
 use Rattle.std.proofs.Common.{sym, ◌∙◌}
 use Rattle.tm_onig_atom.proofs.Texts.{before_here, before_on, before_past, rest_taken}
-use Rattle.tm_onig_atom.proofs.escapes.before.Goals as goal
+use Rattle.tm_onig_atom.proofs.slices.before.Goals as goal
 
 pub returns-then-text-i : goal.returns-then-text-i
 returns-then-text-i c =
