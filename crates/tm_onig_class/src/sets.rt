@@ -150,6 +150,17 @@ impl Set {
         Ok(Set::of_class(class))
     }
 
+    /// The same set again.
+    pub fn copy(&self) -> Result<Set, OutOfMemory>
+        ensures { IfOk result (λ s. s ≡ self.now) }
+    {
+        let ranges = Vec::from_slice(*self.class.ranges.allocator(), &self.class.ranges)?;
+        Ok(Set {
+            class: Class { ranges },
+            ascii: self.ascii,
+        })
+    }
+
     /// The characters that match members without regard to case.
     pub fn folded(&self) -> Result<Set, OutOfMemory>
         ensures { IfOk result (λ s. (c : ℕ) → IsChar c → has_char s c ≡ has_alike self.now c) }

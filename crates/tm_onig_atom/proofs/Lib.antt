@@ -1,0 +1,6 @@
+pub mod Texts
+pub mod Digits
+pub mod EscapeExact
+pub mod PosixExact
+pub mod Front
+pub mod ClassExact

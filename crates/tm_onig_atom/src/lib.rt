@@ -1,0 +1,16 @@
+//! What matches by itself in a pattern: escapes, sets by name, and classes.
+#![tactic(auto)]
+
+pub mod atoms;
+mod escapes;
+mod fault;
+mod fronts;
+pub mod meanings;
+mod numbers;
+pub mod options;
+mod parts;
+mod posix;
+mod slices;
+pub mod store;
+
+pub use fault::AtomFault;
