@@ -9,7 +9,7 @@ use Rattle.tm_onig_parse.specs.declared.groups.Opener.{Opener}
 use Rattle.tm_onig_parse.specs.declared.groups.Opener.TheVariants.{Captures, Groups, Sets, Keeps, Looks}
 use Rattle.tm_onig_parse.specs.declared.quantifiers.Manner.{Manner}
 use Rattle.tm_onig_parse.specs.declared.quantifiers.Manner.TheVariants.{Greedy, Lazy, Possessive, Optional, Again}
-use Rattle.tm_onig_parse.specs.Things.{Atom, Plain, Escaped, Class, Refers, opener_of, count, least_of, greatest_of, manner_of}
+use Rattle.tm_onig_parse.specs.Things.{Atom, Plain, Escaped, Placed, Bracketed, Refers, opener_of, count, least_of, greatest_of, manner_of}
 use Rattle.tm_onig_parse.specs.Grammar.{Body, Simply, Under, Alts, First, Also, Row, Nothing, Then, Noted, Piece, Alone, Inside, Repeated, Behind, groups_alts, groups_row}
 use Rattle.tm_onig_parse.specs.Meaning.{Built, tree_in, any_takes, all_take, row_built, alts_built, enclosed, repeated, around, is_greedy, atom_built, bodies, rows, parts, piece_built, built, meaning}
 
@@ -103,8 +103,9 @@ around_tied Again b is = repeated_tied 1 None true b is
 atom_tied : (a : Atom) → Tied (atom_built a)
 unfolding least_width
 atom_tied (Plain c tree) = refl
-atom_tied (Escaped c tree) = refl
-atom_tied (Class negated is) = refl
+atom_tied (Escaped e tree) = refl
+atom_tied (Placed c place) = refl
+atom_tied (Bracketed k tree) = refl
 atom_tied (Refers r tree) = refl
 
 mutual

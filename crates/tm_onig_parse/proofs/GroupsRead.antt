@@ -2,14 +2,14 @@
 use Rattle.std.proofs.Common.{◌≡◌, ℕ, zero, suc, ◌+◌, ◌<◌, ◌≤◌, Bool, true, false, List, [], ◌∷◌, ◌++◌, length, Option, Some, None, option_map, refl, sym, ap, ap₂, ◌∙◌, subst, arith, length-append, append_assoc, append-nil}
 use Rattle.std.specs.Prelude.{nat_le, if◌then◌else◌}
 use Rattle.std.proofs.lemmas.Option.{cond_some}
-use Rattle.tm_onig_parse.specs.declared.options.Options.{Options}
+use Rattle.tm_onig_atom.specs.declared.options.Options.{Options}
 use Rattle.tm_onig_parse.specs.declared.groups.Opener.TheVariants.{Sets}
 use Rattle.tm_onig_parse.specs.Names.{Names}
-use Rattle.tm_onig_parse.specs.Things.{Atom, Plain, Escaped, Class, Refers, back_tree, IsAtom, Opening, opener_of, name_of, inside, begun, count, Tok, Toks, Single, Opens, Setting, Closing, Bar, Times, Skipped, text_of, IsTok, spelling, AreToks, names_begun, names_among}
+use Rattle.tm_onig_parse.specs.Things.{Atom, Plain, Escaped, Placed, Bracketed, Refers, back_tree, IsAtom, Opening, opener_of, name_of, inside, begun, count, Tok, Toks, Single, Opens, Setting, Closing, Bar, Times, Skipped, text_of, IsTok, spelling, AreToks, names_begun, names_among}
 use Rattle.tm_onig_parse.specs.Meaning.{Built, enclosed}
-use Rattle.tm_onig_parse.specs.ClassReading.{◌>>=◌}
+use Rattle.tm_onig_atom.specs.Reading.{◌>>=◌}
 use Rattle.tm_onig_parse.specs.Reading.{Sym, Level, State, added, level_built, is_set, settled, close_in, within, entered, step, token_at, Outline, outline_step, outline_close, names_read}
-use Rattle.tm_onig_parse.proofs.ClassExact.{bind_ok}
+use Rattle.tm_onig_atom.proofs.Texts.{bind_ok}
 use Rattle.tm_onig_parse.proofs.OneRead.{sym_of}
 use Rattle.tm_onig_parse.proofs.Lexing.{token_again, text_length}
 use Rattle.tm_onig_parse.proofs.Structure.{Runs, opening_set}
@@ -119,8 +119,9 @@ unread o k = k
 -- it is spelled the same
 unread_text : (o : Options) (k : Tok) → text_of (unread o k) ≡ text_of k
 unread_text o (Single (Plain c tree)) = refl
-unread_text o (Single (Escaped c tree)) = refl
-unread_text o (Single (Class negated is)) = refl
+unread_text o (Single (Escaped e tree)) = refl
+unread_text o (Single (Placed c place)) = refl
+unread_text o (Single (Bracketed k tree)) = refl
 unread_text o (Single (Refers r tree)) = refl
 unread_text o (Opens k) = refl
 unread_text o (Setting letters after) = refl
@@ -132,8 +133,9 @@ unread_text o (Skipped s) = refl
 -- it is one where no groups are known
 unread_is : (names : Names) (k : Tok) (o : Options) (rest : List ℕ) → IsTok (Some names) k o rest → IsTok None (unread o k) o rest
 unread_is names (Single (Plain c tree)) o rest is = is
-unread_is names (Single (Escaped c tree)) o rest is = is
-unread_is names (Single (Class negated is)) o rest are = are
+unread_is names (Single (Escaped e tree)) o rest is = is
+unread_is names (Single (Placed c place)) o rest is = is
+unread_is names (Single (Bracketed k tree)) o rest is = is
 unread_is names (Single (Refers r tree)) o rest is = (is.0, refl)
 unread_is names (Opens k) o rest is = is
 unread_is names (Setting letters after) o rest is = is
@@ -145,8 +147,9 @@ unread_is names (Skipped s) o rest is = is
 -- and the first reading goes the same way
 unread_step : (k : Tok) (o : Options) (s : Outline) → outline_step (sym_of (unread o k) o) s ≡ outline_step (sym_of k o) s
 unread_step (Single (Plain c tree)) o s = refl
-unread_step (Single (Escaped c tree)) o s = refl
-unread_step (Single (Class negated is)) o s = refl
+unread_step (Single (Escaped e tree)) o s = refl
+unread_step (Single (Placed c place)) o s = refl
+unread_step (Single (Bracketed k tree)) o s = refl
 unread_step (Single (Refers r tree)) o s = refl
 unread_step (Opens k) o s = refl
 unread_step (Setting letters after) o s = refl

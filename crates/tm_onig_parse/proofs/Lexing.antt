@@ -1,28 +1,32 @@
 -- One thing is read exactly as it is spelled.
-use Rattle.std.proofs.Common.{◌≡◌, ℕ, ◌<◌, ◌≤◌, Bool, true, false, List, [], ◌∷◌, ◌++◌, ◌&&◌, ◌||◌, map, length, Option, Some, None, option_map, refl, sym, ap, ◌∙◌, subst, inl, inr, arith, length-append, append_assoc}
+use Rattle.std.proofs.Common.{◌≡◌, ℕ, ◌<◌, ◌≤◌, Bool, true, false, List, [], ◌∷◌, ◌++◌, ◌&&◌, ◌||◌, length, Option, Some, None, option_map, refl, sym, ap, ◌∙◌, subst, inl, inr, arith, length-append, append_assoc}
 use Rattle.std.specs.Prelude.{◌==◌}
 use Rattle.std.specs.List.{list_any}
 use Rattle.std.proofs.lemmas.Bool.{cases_Bool, eqb-true, eq-eqb, and_parts}
-use Rattle.tm_onig_class.specs.Tree.{Tree}
-use Rattle.tm_onig_parse.specs.declared.options.Options.{Options}
-use Rattle.tm_onig_parse.specs.declared.classes.Member.{Member}
+use Rattle.tm_onig_class.specs.Tree.{Tree, Holds}
+use Rattle.tm_onig_class.specs.declared.patterns.Position.{Position}
+use Rattle.tm_onig_atom.specs.declared.options.Options.{Options}
+use Rattle.tm_onig_atom.specs.ClassReading.{class_at}
+use Rattle.tm_onig_atom.specs.Classes.{Class, inside, class_height}
+use Rattle.tm_onig_atom.specs.Escapes.{begins, Escape, escape_head, escape_text}
+use Rattle.tm_onig_atom.specs.Reading as Atoms
+use Rattle.tm_onig_atom.proofs.ClassExact.{class_again, class_found}
+use Rattle.tm_onig_atom.proofs.EscapeExact.{escape_again as character_again, escape_found as character_found}
+use Rattle.tm_onig_atom.proofs.Texts.{chosen, differs, or_parts}
 use Rattle.tm_onig_parse.specs.declared.quantifiers.Manner.TheVariants.{Lazy, Possessive, Again}
-use Rattle.tm_onig_parse.specs.Characters.{single_tree, escape_tree, is_special}
-use Rattle.tm_onig_parse.specs.Classes.{begins, Item, item_text, member_of, items_text, AreItems, class_text, IsClass}
+use Rattle.tm_onig_parse.specs.Characters.{single_tree, is_special, place_letter, is_later}
 use Rattle.tm_onig_parse.specs.Intervals.{Bounds, bounds_text, IsBounds, NoBounds, least_in, greatest_in}
 use Rattle.tm_onig_parse.specs.Names.{Names, reference_text, key_of, meant_in}
-use Rattle.tm_onig_parse.specs.Things.{is_blank, skips, begins_reference, back_tree, Atom, Plain, Escaped, Class, Refers, atom_text, IsAtom, Opening, Capture, Named, Group, Keep, Look, opening_text, sign_bounds, Amount, Sign, Braces, amount_text, IsAmount, least_of, greatest_of, Mark, mark_text, EndsMark, with_question, with_plus, manner_of, Skip, Comment, Blank, Remark, skip_text, ends_line, IsSkip, Tok, Single, Opens, Setting, Closing, Bar, Times, Skipped, text_of, IsTok}
-use Rattle.tm_onig_parse.specs.Meaning.{atom_built, class_built}
-use Rattle.tm_onig_parse.specs.ClassReading.{items_on, signed, class_at}
-use Rattle.tm_onig_parse.specs.Reading.{Sym, Means, Repeats, Skips, Found, bounds_at, comment_at, open_at, groups_at, times_at, interval_at, braces_at, means, refers, reference_at, escape_at, means_class, line_end, bounds_or, sign_or, token_at}
-use Rattle.tm_onig_parse.proofs.ClassExact.{chosen, bind_ok, differs, items_found, items_again}
+use Rattle.tm_onig_parse.specs.Things.{is_blank, skips, begins_reference, back_tree, Atom, Plain, Escaped, Placed, Bracketed, Refers, atom_text, IsAtom, Opening, Capture, Named, Group, Keep, Look, opening_text, sign_bounds, Amount, Sign, Braces, amount_text, IsAmount, least_of, greatest_of, Mark, mark_text, EndsMark, with_question, with_plus, manner_of, Skip, Comment, Blank, Remark, skip_text, ends_line, IsSkip, Tok, Single, Opens, Setting, Closing, Bar, Times, Skipped, text_of, IsTok}
+use Rattle.tm_onig_parse.specs.Meaning.{atom_built, class_built, leaf}
+use Rattle.tm_onig_parse.specs.Reading.{Sym, Means, Repeats, Skips, Found, bounds_at, comment_at, open_at, groups_at, times_at, interval_at, braces_at, means, means_escape, place_or, escape_at, means_class, line_end, bounds_or, sign_or, token_at}
 use Rattle.tm_onig_parse.proofs.BoundsExact.{bounds_again, bounds_found, no_bounds, lacks_bounds}
 use Rattle.tm_onig_parse.proofs.BoundsValues.{Interval, interval_again, interval_found}
 use Rattle.tm_onig_parse.proofs.Marks.{mark_again, mark_found, question_same}
 use Rattle.tm_onig_parse.proofs.Blank.{blank_differs, no_blanks}
 use Rattle.tm_onig_parse.proofs.OneRead.{sym_of, Reads, reads_by, reads_as}
 use Rattle.tm_onig_parse.proofs.ReferencesExact.{escape_again, Referred, reference_found}
-use Rattle.tm_onig_parse.proofs.OpeningsExact.{comment_again, behind_bracket, opening_again, setting_again, open_found, or_parts}
+use Rattle.tm_onig_parse.proofs.OpeningsExact.{comment_again, behind_bracket, opening_again, setting_again, open_found}
 
 -- The character begins nothing of its own.
 record Ordinary (c : ℕ) : Type 0 where
@@ -80,46 +84,6 @@ brace_again c rest none = elim (cases_Bool (c == 123)) [
 brace_found : (c : ℕ) (rest : List ℕ) → ((c == 123) && bounds_at rest) ≡ false → c ≡ 123 → NoBounds rest
 brace_found c rest e is = lacks_bounds rest (rw (eq-eqb c 123 is) at e)
 
--- the front of a text that is not empty
-begins-append : (d : ℕ) (xs ys : List ℕ) → 0 < length xs → begins d (xs ++ ys) ≡ begins d xs
-begins-append d [] ys h = absurd (omega arith)
-begins-append d (x ∷ xs) ys h = refl
-
--- a class that is not negated
-class_plain : (t : List ℕ) → 0 < length t → begins 94 t ≡ false → class_at t ≡ signed false (items_on true t)
-unfolding class_at
-class_plain [] h e = absurd (omega arith)
-class_plain (c ∷ t) h e = rw e refl
-
--- the items with their `]` are not empty
-items_long : (is : List Item) → 0 < length (items_text is)
-items_long [] = omega arith
-items_long (i ∷ is) = omega (arith, length-append (item_text i) (items_text is), items_long is)
-
--- the items of a class are read
-items_read : (is : List Item) (rest : List ℕ) → AreItems true is rest → items_on true (items_text is ++ rest) ≡ Some (map member_of is, rest)
-items_read is rest are = items_again is (length (items_text is ++ rest)) true rest (omega (arith, length-append (items_text is) rest)) are
-
--- the text behind the `[`
-abbrev inside : Bool → List Item → List ℕ
-inside true is = 94 ∷ items_text is
-inside false is = items_text is
-
--- a class that is written is read
-class_again : (negated : Bool) (is : List Item) (rest : List ℕ) → IsClass negated is rest → class_at (inside negated is ++ rest) ≡ Some ((negated, map member_of is), rest)
-unfolding class_at
-class_again true is rest are = ap (signed true) (items_read is rest are)
-class_again false is rest are =
-    let some = items_long is in
-    class_plain (items_text is ++ rest) (omega (arith, length-append (items_text is) rest)) (begins-append 94 (items_text is) rest some ∙ are.0)
-    ∙ ap (signed false) (items_read is rest are.1)
-
--- a `[` begins a class
-class_token : (names : Option Names) (o : Options) (negated : Bool) (is : List Item) (rest : List ℕ) → token_at names o (class_text negated is ++ rest) ≡ means_class (class_at (inside negated is ++ rest))
-unfolding token_at
-class_token names o true is rest = refl
-class_token names o false is rest = refl
-
 -- what is not skipped is neither white space nor a `#` that begins a remark
 not_skipped : (o : Options) (c : ℕ) → skips o c ≡ false → ((o.extended && is_blank c) ≡ false) × ((o.extended && (c == 35)) ≡ false)
 not_skipped o c e = parts o.extended (is_blank c) (c == 35) e
@@ -158,17 +122,47 @@ plain_again names o c tree rest is =
     ∙ bounds_or_char o c rest is.1
     ∙ (rw (brace_again c rest is.2, is.0) refl)
 
+-- a place begins no reference
+place_no_reference : (c : ℕ) (place : Position) → place_letter c ≡ Some place → begins_reference c ≡ false
+unfolding place_letter
+place_no_reference c place e = elim (chosen (c == 98) _ _ _ e) [
+  | inl h ↦ rw (eqb-true c 98 h.0) refl
+  | inr h ↦ elim (chosen (c == 66) _ _ _ h.1) [
+    | inl g ↦ rw (eqb-true c 66 g.0) refl
+    | inr g ↦ elim (chosen (c == 90) _ _ _ g.1) [
+      | inl f ↦ rw (eqb-true c 90 f.0) refl
+      | inr f ↦ elim (chosen (c == 122) _ _ _ f.1) [
+        | inl d ↦ rw (eqb-true c 122 d.0) refl
+        | inr d ↦ absurd cc
+      ]
+    ]
+  ]
+]
+
 -- an escape that is written is read
-escaped_again : (names : Option Names) (o : Options) (c : ℕ) (tree : Tree) (rest : List ℕ) → IsAtom names (Escaped c tree) o rest → escape_at names o (c ∷ rest) ≡ Some (Means (atom_built (Escaped c tree)), rest)
+escaped_again : (names : Option Names) (o : Options) (e : Escape) (tree : Tree) (rest : List ℕ) → IsAtom names (Escaped e tree) o rest →
+    escape_at names o (escape_text e ++ rest) ≡ Some (Means (leaf tree), rest)
 unfolding escape_at
-escaped_again names o c tree rest is = rw (is.0, is.1) refl
+escaped_again names o e tree rest is =
+    (rw (is.0, is.1, is.2) (ap means_escape (character_again e o rest is.3))) ∙ ap (λ (t : Tree). Some (Means (leaf t), rest)) is.4
+
+-- a place that is written is read
+placed_again : (names : Option Names) (o : Options) (c : ℕ) (place : Position) (rest : List ℕ) → place_letter c ≡ Some place → escape_at names o (c ∷ rest) ≡ Some (Means (leaf (Holds place)), rest)
+unfolding escape_at
+placed_again names o c place rest is = rw (place_no_reference c place is, is) refl
+
+-- a class that is written is read
+bracketed_again : (names : Option Names) (o : Options) (k : Class) (tree : Tree) (rest : List ℕ) → IsAtom names (Bracketed k tree) o rest →
+    means_class (class_at 200 o (inside k ++ rest)) ≡ Some (Means (class_built tree (class_height k)), rest)
+bracketed_again names o k tree rest is = ap means_class (class_again k 200 o rest is.0 is.1) ∙ ap (λ (t : Tree). Some (Means (class_built t (class_height k)), rest)) is.2
 
 -- an atom that is written is read
 atom_again : (names : Option Names) (a : Atom) (o : Options) (rest : List ℕ) → IsAtom names a o rest → token_at names o (atom_text a ++ rest) ≡ Some (Means (atom_built a), rest)
 unfolding token_at
 atom_again names (Plain c tree) o rest is = plain_again names o c tree rest is
-atom_again names (Escaped c tree) o rest is = escaped_again names o c tree rest is
-atom_again names (Class negated is) o rest are = class_token names o negated is rest ∙ ap means_class (class_again negated is rest are)
+atom_again names (Escaped e tree) o rest is = escaped_again names o e tree rest is
+atom_again names (Placed c place) o rest is = placed_again names o c place rest is
+atom_again names (Bracketed k tree) o rest is = bracketed_again names o k tree rest is
 atom_again names (Refers r tree) o rest is = escape_again names r o rest is.0 ∙ ap (λ t. means t rest) is.1
 
 -- a `{` that begins bounds
@@ -278,10 +272,29 @@ braces_found names o t y rest some e =
     subst (λ u. Reads names o (123 ∷ u) y rest) (sym b.whole) (bounds_read names b.bounds o b.more b.is (interval_at (bounds_text b.bounds ++ b.more)) refl y rest (rw b.whole at e))
 
 -- an escape that is read
-escape_found : (names : Option Names) (o : Options) (c : ℕ) → begins_reference c ≡ false → (r : Option Tree) → escape_tree o c ≡ r → (t : List ℕ) (y : Sym) (rest : List ℕ) → means r t ≡ Some (y, rest) →
-    Reads names o (92 ∷ c ∷ t) y rest
-escape_found names o c other None is t y rest e = absurd cc
-escape_found names o c other (Some tree) is t y rest e = reads_by names (Single (Escaped c tree)) o t y rest (other, is) e
+escape_read : (names : Option Names) (o : Options) (t : List ℕ) → ((e : Escape) (after : List ℕ) → t ≡ escape_text e ++ after → (begins_reference (escape_head e) ≡ false) × (place_letter (escape_head e) ≡ None) × (is_later (escape_head e) ≡ false)) →
+    (r : Option (Tree × List ℕ)) → Atoms.escape_at o t ≡ r → (y : Sym) (rest : List ℕ) → means_escape r ≡ Some (y, rest) → Reads names o (92 ∷ t) y rest
+escape_read names o t free None is y rest e = absurd cc
+escape_read names o t free (Some x) is y rest e =
+    let f = character_found o t x.0 x.1 is in
+    let fr = free f.escape x.1 f.whole in
+    reads_as names o (92 ∷ t) (92 ∷ (escape_text f.escape ++ x.1)) y rest (ap (λ u. 92 ∷ u) f.whole)
+    (reads_by names (Single (Escaped f.escape x.0)) o x.1 y rest (fr.0, fr.1, fr.2, f.is, sym f.means) e)
+
+-- the first of a text
+same_first : (c d : ℕ) (t u : List ℕ) → c ∷ t ≡ d ∷ u → c ≡ d
+same_first c d t u e = cc
+
+-- a place, or an escape that is read
+place_or_found : (names : Option Names) (o : Options) (c : ℕ) → begins_reference c ≡ false → (place : Option Position) → place_letter c ≡ place → (t : List ℕ) (y : Sym) (rest : List ℕ) →
+    place_or o place c t ≡ Some (y, rest) → Reads names o (92 ∷ c ∷ t) y rest
+place_or_found names o c other (Some place) is t y rest e = reads_by names (Single (Placed c place)) o t y rest is e
+place_or_found names o c other None is t y rest e = elim (chosen (is_later c) _ _ _ e) [
+  | inl h ↦ absurd cc
+  | inr h ↦ escape_read names o (c ∷ t) (λ k after whole.
+      let same = same_first c (escape_head k) t _ whole in
+      (subst (λ d. begins_reference d ≡ false) same other, subst (λ d. place_letter d ≡ None) same is, subst (λ d. is_later d ≡ false) same h.0)) (Atoms.escape_at o (c ∷ t)) refl y rest h.1
+]
 
 -- a reference that is read, with what it means
 back_found : (names : Option Names) (o : Options) (t : List ℕ) (y : Sym) (rest : List ℕ) (r : Referred names o t y rest) (m : Option Tree) → option_map (back_tree o) (meant_in names (key_of r.reference)) ≡ m →
@@ -298,7 +311,7 @@ slash_found names o (c ∷ t) y rest e = elim (chosen (begins_reference c) _ _ _
   | inl h ↦
       let r = reference_found names o c t y rest h.0 h.1 in
       back_found names o (c ∷ t) y rest r (option_map (back_tree o) (meant_in names (key_of r.reference))) refl r.means
-  | inr h ↦ escape_found names o c h.0 (escape_tree o c) refl t y rest h.1
+  | inr h ↦ place_or_found names o c h.0 (place_letter c) refl t y rest h.1
 ]
 
 -- a character that is read
@@ -356,47 +369,13 @@ sign_found names o c None is t y rest e = elim (chosen (o.extended && is_blank c
 ]
 sign_found names o c (Some bounds) is t y rest e = times_found names (Sign c bounds.0 bounds.1) o is t y rest e
 
--- a class was read as it is written
-record ReadsClass (t : List ℕ) (negated : Bool) (members : List Member) (rest : List ℕ) : Type 0 where
-  items : List Item
-  whole : 91 ∷ t ≡ class_text negated items ++ rest
-  is : IsClass negated items rest
-  means : members ≡ map member_of items
-
--- one class in both
-same_class : (x : (Bool × List Member) × List ℕ) (negated : Bool) (members : List Member) (rest : List ℕ) →
-    ◌≡◌ {A = Option ((Bool × List Member) × List ℕ)} (Some ((negated, members), rest)) (Some x) → ◌≡◌ {A = (Bool × List Member) × List ℕ} ((negated, members), rest) x
-same_class x negated members rest e = cc
-
--- the same of a pair
-abbrev Classed : List ℕ → (Bool × List Member) × List ℕ → Type 0
-Classed t x = ReadsClass t x.0.0 x.0.1 x.1
-
--- the items of a class that is read
-signed_found : (negated : Bool) (t u : List ℕ) → ((is : List Item) (rest : List ℕ) → t ≡ items_text is ++ rest → AreItems true is rest →
-    (91 ∷ u ≡ class_text negated is ++ rest) × IsClass negated is rest) → (x : (Bool × List Member) × List ℕ) → signed negated (items_on true t) ≡ Some x → Classed u x
-signed_found negated t u classed x e =
-    let b = bind_ok (items_on true t) _ x e in
-    let r = items_found (length t) true t b.0.0 b.0.1 b.1 in
-    let is = classed r.items b.0.1 r.whole r.are in
-    subst (Classed u) (same_class x negated b.0.0 b.0.1 b.2) (record { items = r.items; whole = is.0; is = is.1; means = r.means })
-
--- a class that is read is written
-class_found : (t : List ℕ) (x : (Bool × List Member) × List ℕ) → class_at t ≡ Some x → Classed t x
-unfolding class_at
-class_found [] x e = absurd cc
-class_found (c ∷ t) x e = elim (chosen (c == 94) _ _ _ e) [
-  | inl h ↦ rw (eqb-true c 94 h.0) (signed_found true t (94 ∷ t) (λ is rest whole are. (ap (λ u. 91 ∷ 94 ∷ u) whole, are)) x h.1)
-  | inr h ↦ signed_found false (c ∷ t) (c ∷ t) (λ is rest whole are.
-      (ap (λ u. 91 ∷ u) whole, (sym (begins-append 94 (items_text is) rest (items_long is)) ∙ ap (begins 94) (sym whole) ∙ h.0, are))) x h.1
-]
-
 -- a `[` that is read
-brackets_found : (names : Option Names) (o : Options) (t : List ℕ) (r : Option ((Bool × List Member) × List ℕ)) → class_at t ≡ r → (y : Sym) (rest : List ℕ) → means_class r ≡ Some (y, rest) → Reads names o (91 ∷ t) y rest
+brackets_found : (names : Option Names) (o : Options) (t : List ℕ) (r : Option ((Tree × ℕ) × List ℕ)) → class_at 200 o t ≡ r → (y : Sym) (rest : List ℕ) → means_class r ≡ Some (y, rest) → Reads names o (91 ∷ t) y rest
 brackets_found names o t None is y rest e = absurd cc
 brackets_found names o t (Some x) is y rest e =
-    let c = class_found t x is in
-    subst (λ u. Reads names o u y rest) (sym c.whole) (reads_by names (Single (Class x.0.0 c.items)) o x.1 y rest c.is (ap (λ ms. Some (Means (class_built x.0.0 ms), x.1)) (sym c.means) ∙ e))
+    let f = class_found 200 o t x.0.0 x.0.1 x.1 is in
+    reads_as names o (91 ∷ t) (91 ∷ (inside f.class ++ x.1)) y rest (ap (λ u. 91 ∷ u) f.whole)
+    (reads_by names (Single (Bracketed f.class x.0.0)) o x.1 y rest (f.is, f.low, sym f.means) (ap (λ h. Some (Means (class_built x.0.0 h), x.1)) (sym f.high) ∙ e))
 
 -- A thing that is read is written.
 pub token_found : (names : Option Names) (o : Options) (t : List ℕ) (y : Sym) (rest : List ℕ) → token_at names o t ≡ Some (y, rest) → Reads names o t y rest
@@ -411,7 +390,7 @@ token_found names o (c ∷ t) y rest e = elim (chosen (c == 40) _ _ _ e) [
       | inr f ↦ elim (chosen (c == 92) _ _ _ f.1) [
         | inl d ↦ rw (eqb-true c 92 d.0) (slash_found names o t y rest d.1)
         | inr d ↦ elim (chosen (c == 91) _ _ _ d.1) [
-          | inl b ↦ rw (eqb-true c 91 b.0) (brackets_found names o t (class_at t) refl y rest b.1)
+          | inl b ↦ rw (eqb-true c 91 b.0) (brackets_found names o t (class_at 200 o t) refl y rest b.1)
           | inr b ↦ sign_found names o c (sign_bounds c) refl t y rest b.1
         ]
       ]
@@ -422,9 +401,9 @@ token_found names o (c ∷ t) y rest e = elim (chosen (c == 40) _ _ _ e) [
 -- an atom is not empty
 atom_length : (a : Atom) → 0 < length (atom_text a)
 atom_length (Plain c tree) = omega arith
-atom_length (Escaped c tree) = omega arith
-atom_length (Class true is) = omega arith
-atom_length (Class false is) = omega arith
+atom_length (Escaped e tree) = omega arith
+atom_length (Placed c place) = omega arith
+atom_length (Bracketed k tree) = omega arith
 atom_length (Refers r tree) = omega arith
 
 -- an opening is not empty

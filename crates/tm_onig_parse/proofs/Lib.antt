@@ -1,6 +1,3 @@
-pub mod ClassExact
-pub mod ClassTurns
-pub mod ClassMembers
 pub mod BoundsExact
 pub mod BoundsValues
 pub mod Marks
@@ -10,6 +7,7 @@ pub mod OneRead
 pub mod OpeningsExact
 pub mod Blank
 pub mod Lexing
+pub mod Wide
 pub mod Heights
 pub mod Structure
 pub mod Back

@@ -6,17 +6,20 @@ use Rattle.std.proofs.lemmas.Bool.{and_parts}
 use Rattle.std.proofs.lemmas.Option.{cond_some}
 use Rattle.tm_onig_parse.specs.declared.groups.Opener.{Opener}
 use Rattle.tm_onig_class.specs.Tree.{Tree, Char, Any, Holds, trees}
-use Rattle.tm_onig_class.specs.declared.patterns.Position.{Position}
 use Rattle.tm_onig_class.specs.declared.patterns.Position.TheVariants as Place
-use Rattle.tm_onig_class.specs.declared.listed.Listed.{Listed}
 use Rattle.tm_onig_class.specs.Groups.{group_numbers, numbers_in, references, references_in, counted, IsNumbered}
-use Rattle.tm_onig_parse.specs.declared.options.Options.{Options}
+use Rattle.tm_onig_atom.specs.declared.options.Options.{Options}
 use Rattle.tm_onig_parse.specs.declared.groups.Opener.TheVariants.{Captures, Groups, Sets, Keeps, Looks}
 use Rattle.tm_onig_parse.specs.declared.quantifiers.Manner.{Manner}
 use Rattle.tm_onig_parse.specs.declared.quantifiers.Manner.TheVariants.{Greedy, Lazy, Possessive, Optional, Again}
-use Rattle.tm_onig_parse.specs.Characters.{no_options, is_special, single_tree, set_letter, escaped_char, set_or_char, place_letter, is_later, place_or_other, escape_tree}
+use Rattle.tm_onig_atom.specs.NoOptions.{no_options}
+use Rattle.tm_onig_atom.specs.declared.meanings.Meant.{Meant}
+use Rattle.tm_onig_atom.specs.declared.meanings.Meant.TheVariants.{Character, Members}
+use Rattle.tm_onig_atom.specs.Classes.{Class, class_tree}
+use Rattle.tm_onig_atom.specs.Escapes.{meant as meant_by, meant_tree}
+use Rattle.tm_onig_parse.specs.Characters.{is_special, single_tree}
 use Rattle.tm_onig_parse.specs.Names.{Names, is_called, called_from, some_in, Key, Number, Name, key_of, meant}
-use Rattle.tm_onig_parse.specs.Things.{back_tree, Atom, Plain, Escaped, Class, Refers, IsAtom, Opening, Capture, Named, Group, Keep, Look, inside, opener_of, name_of, begun, count, least_of, greatest_of, manner_of, Toks, Single, Opens, Setting, Closing, Bar, Times, Skipped, spelling, AreToks, names_begun, names_among}
+use Rattle.tm_onig_parse.specs.Things.{back_tree, Atom, Plain, Escaped, Placed, Bracketed, Refers, IsAtom, Opening, Capture, Named, Group, Keep, Look, inside, opener_of, name_of, begun, count, least_of, greatest_of, manner_of, Toks, Single, Opens, Setting, Closing, Bar, Times, Skipped, spelling, AreToks, names_begun, names_among}
 use Rattle.tm_onig_parse.specs.Grammar.{Body, Simply, Under, Alts, First, Also, Row, Nothing, Then, Noted, Piece, Alone, Inside, Repeated, Behind, end_options, written, written_alts, written_row, written_piece, groups, groups_alts, groups_row, groups_piece}
 use Rattle.tm_onig_parse.specs.Meaning.{Built, enclosed, quantified, tree_in, row_built, alts_built, atom_built, bodies, rows, parts, piece_built, meaning, names_in, Spells}
 
@@ -45,24 +48,6 @@ unfolding single_tree group_numbers references
 single_bare o c =
     either_bare (c == 46) _ _ (bare (Any o.newline) refl refl) (either_bare (c == 94) _ _ (bare (Holds Place.LineStart) refl refl)
     (either_bare (c == 36) _ _ (bare (Holds Place.LineEnd) refl refl) (either_bare (is_special c) None _ tt (bare (Char c o.fold) refl refl))))
-
--- a set or a character
-set_bare : (o : Options) (letter : Option (Listed × Bool)) (c : Option ℕ) → MaybeBare (set_or_char o letter c)
-unfolding group_numbers references
-set_bare o (Some letter) c = record { numbers = refl; named = refl }
-set_bare o None (Some c) = record { numbers = refl; named = refl }
-set_bare o None None = tt
-
--- a place, a set or a character
-place_bare : (o : Options) (place : Option Position) (c : ℕ) → MaybeBare (place_or_other o place c)
-unfolding group_numbers references
-place_bare o (Some place) c = record { numbers = refl; named = refl }
-place_bare o None c = either_bare (is_later c) None _ tt (set_bare o (set_letter c) (escaped_char c))
-
--- what stands behind a backslash
-escape_bare : (o : Options) (c : ℕ) → MaybeBare (escape_tree o c)
-unfolding escape_tree
-escape_bare o c = place_bare o (place_letter c) c
 
 -- The groups that a list names are among the first so many.
 abbrev AreKnown : ℕ → List ℕ → Type 0
@@ -115,12 +100,24 @@ back_leaf names key o (Some groups) tree is e =
     let same : back_tree o groups ≡ tree = cc in
     subst (IsLeaf (length names)) same (record { numbers = refl; known = meant_known names key groups is })
 
+-- what an escape means
+meant_leaf : (m : ℕ) (o : Options) (x : Meant) → IsLeaf m (meant_tree o x)
+unfolding group_numbers references
+meant_leaf m o (Character c) = record { numbers = refl; known = refl }
+meant_leaf m o (Members named) = record { numbers = refl; known = refl }
+
+-- what a class means
+class_leaf : (m : ℕ) (o : Options) (k : Class) → IsLeaf m (class_tree o k)
+unfolding group_numbers references
+class_leaf m o k = record { numbers = refl; known = refl }
+
 -- the tree of an atom
 atom_leaf : (names : Names) (a : Atom) (o : Options) (rest : List ℕ) → IsAtom (Some names) a o rest → IsLeaf (length names) (atom_built a).tree
 unfolding group_numbers references
 atom_leaf names (Plain c tree) o rest is = bare_leaf (length names) tree (subst MaybeBare is.0 (single_bare o c))
-atom_leaf names (Escaped c tree) o rest is = bare_leaf (length names) tree (subst MaybeBare is.1 (escape_bare o c))
-atom_leaf names (Class negated is) o rest are = record { numbers = refl; known = refl }
+atom_leaf names (Escaped e tree) o rest is = subst (IsLeaf (length names)) is.4 (meant_leaf (length names) o (meant_by e))
+atom_leaf names (Placed c place) o rest is = record { numbers = refl; known = refl }
+atom_leaf names (Bracketed k tree) o rest is = subst (IsLeaf (length names)) is.2 (class_leaf (length names) o k)
 atom_leaf names (Refers r tree) o rest is = back_leaf names (key_of r) o (meant names (key_of r)) tree refl is.1
 
 -- The atoms among the things are atoms, whatever follows.

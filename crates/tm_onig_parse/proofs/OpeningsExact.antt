@@ -3,15 +3,15 @@ use Rattle.std.proofs.Common.{◌≡◌, ℕ, ◌<◌, Bool, true, false, ◌||�
 use Rattle.std.specs.Prelude.{◌==◌}
 use Rattle.std.specs.List.{list_any, list_all}
 use Rattle.std.proofs.lemmas.Bool.{cases_Bool, eqb-true, ne_eqb, and_parts}
-use Rattle.tm_onig_parse.specs.declared.options.Options.{Options}
+use Rattle.tm_onig_atom.specs.declared.options.Options.{Options}
 use Rattle.tm_onig_parse.specs.declared.groups.Opener.TheVariants.{Captures, Groups, Keeps, Looks}
-use Rattle.tm_onig_parse.specs.Classes.{begins}
-use Rattle.tm_onig_parse.specs.ClassReading.{◌>>=◌}
+use Rattle.tm_onig_atom.specs.Escapes.{begins}
+use Rattle.tm_onig_atom.specs.Reading.{◌>>=◌}
 use Rattle.tm_onig_parse.specs.Names.{Names, is_name_char, IsName}
 use Rattle.tm_onig_parse.specs.Options.{letter, switched}
 use Rattle.tm_onig_parse.specs.Things.{Opening, Capture, Named, Group, Keep, Look, opening_text, IsOpening, inside, opener_of, name_of, Tok, Opens, Setting, Skipped, Comment, text_of, IsTok}
 use Rattle.tm_onig_parse.specs.Reading.{Sym, Open, Switches, Skips, Found, comment_at, name_to, named_at, behind_at, switch_at, groups_at, open_at}
-use Rattle.tm_onig_parse.proofs.ClassExact.{chosen, bind_ok, differs}
+use Rattle.tm_onig_atom.proofs.Texts.{chosen, bind_ok, differs, or_parts}
 use Rattle.tm_onig_parse.proofs.OneRead.{sym_of, same_pair, Reads, reads_by, reads_as}
 use Rattle.tm_onig_parse.proofs.NamesExact.{name_to_again, name_to_found}
 
@@ -138,11 +138,6 @@ behind_name : (o : Options) (name rest : List ℕ) → IsName name → behind_at
 behind_name o name rest is =
     behind_named o (name ++ 62 ∷ rest) (name_length name 62 rest) (name_front name 62 61 rest is refl) (name_front name 62 33 rest is refl)
     ∙ (rw (name_to_again 62 name rest is refl) refl)
-
--- neither is
-pub or_parts : (a b : Bool) → (a || b) ≡ false → (a ≡ false) × (b ≡ false)
-or_parts true b e = absurd cc
-or_parts false b e = (refl, e)
 
 -- a comment that is written is read
 pub comment_again : (text rest : List ℕ) → list_any (λ c. c == 41) text ≡ false → comment_at (text ++ 41 ∷ rest) ≡ Some (Skips, rest)

@@ -1,7 +1,7 @@
 -- Patterns as they are written: a pattern is a body, made of things that are spelled one after another.
 -- What it means is in `Meaning`.
 use Rattle.std.specs.Prelude.{ℕ, ◌+◌, List, [], ◌∷◌, ◌++◌}
-use Rattle.tm_onig_parse.specs.declared.options.Options.{Options}
+use Rattle.tm_onig_atom.specs.declared.options.Options.{Options}
 use Rattle.tm_onig_parse.specs.Things.{Atom, Opening, inside, opener_of, count, Amount, Mark, Skip, Single, Opens, Setting, Closing, Bar, Times, Skipped, Toks}
 
 -- The grammar. A body is what a group holds: alternatives, and where options are set among them, the

@@ -1,11 +1,9 @@
 pub mod Characters
-pub mod Classes
 pub mod Intervals
 pub mod Names
 pub mod Options
 pub mod Things
 pub mod Grammar
 pub mod Meaning
-pub mod ClassReading
 pub mod Reading
 pub mod Views

@@ -1,17 +1,15 @@
 -- What a pattern means, and which texts are patterns.
 use Rattle.std.specs.Prelude.{◌≡◌, ℕ, ◌+◌, ◌≤◌, ◌&&◌, ◌||◌, nat_lt, Bool, true, false, List, [], ◌∷◌, ◌++◌, map, max, length, Option, Some, None, if◌then◌else◌}
-use Rattle.tm_onig_class.specs.Members.{ranges_of}
-use Rattle.tm_onig_class.specs.Tree.{Tree, Empty, InSet, Cat, Alt, Group, Atomic, Look, Repeat, trees}
+use Rattle.tm_onig_atom.specs.Classes.{class_height}
+use Rattle.tm_onig_class.specs.Tree.{Tree, Empty, Cat, Alt, Group, Atomic, Look, Repeat, Holds, trees}
 use Rattle.tm_onig_class.specs.Widths.{least_width}
 use Rattle.tm_onig_parse.specs.declared.groups.Opener.{Opener}
 use Rattle.tm_onig_parse.specs.declared.groups.Opener.TheVariants.{Captures, Groups, Sets, Keeps, Looks}
 use Rattle.tm_onig_parse.specs.declared.quantifiers.Manner.{Manner}
 use Rattle.tm_onig_parse.specs.declared.quantifiers.Manner.TheVariants.{Greedy, Lazy, Possessive, Optional, Again}
-use Rattle.tm_onig_parse.specs.declared.classes.Member.{Member}
-use Rattle.tm_onig_parse.specs.Characters.{no_options}
-use Rattle.tm_onig_parse.specs.Classes.{member_of, class_has}
+use Rattle.tm_onig_atom.specs.NoOptions.{no_options}
 use Rattle.tm_onig_parse.specs.Names.{Names}
-use Rattle.tm_onig_parse.specs.Things.{Atom, Plain, Escaped, Class, Refers, opener_of, count, least_of, greatest_of, manner_of, spelling, AreToks, names_among}
+use Rattle.tm_onig_parse.specs.Things.{Atom, Plain, Escaped, Placed, Bracketed, Refers, opener_of, count, least_of, greatest_of, manner_of, spelling, AreToks, names_among}
 use Rattle.tm_onig_parse.specs.Grammar.{Body, Simply, Under, Alts, First, Also, Row, Nothing, Then, Noted, Piece, Alone, Inside, Repeated, Behind, written, groups, groups_alts, groups_row}
 
 -- A tree with how deep its text is nested, whether it is a repetition, and whether each match of it
@@ -26,16 +24,17 @@ pub record Built : Type 0 where
 abbrev pub leaf : Tree → Built
 leaf tree = record { tree = tree; height = 0; repeated = false; takes = nat_lt 0 (least_width tree) }
 
--- A class is open between its brackets, so it is nested once.
-abbrev pub class_built : Bool → List Member → Built
-class_built negated ms = record { tree = InSet (ranges_of (class_has negated ms)) false; height = 1; repeated = false; takes = true }
+-- The same of a class, which may have classes inside.
+abbrev pub class_built : Tree → ℕ → Built
+class_built tree height = record { tree = tree; height = height; repeated = false; takes = nat_lt 0 (least_width tree) }
 
 -- What an atom means.
 abbrev pub atom_built : Atom → Built
 atom_built (Plain c tree) = leaf tree
-atom_built (Escaped c tree) = leaf tree
+atom_built (Escaped e tree) = leaf tree
+atom_built (Placed c place) = leaf (Holds place)
+atom_built (Bracketed k tree) = class_built tree (class_height k)
 atom_built (Refers r tree) = leaf tree
-atom_built (Class negated is) = class_built negated (map member_of is)
 
 -- The tree alone.
 abbrev pub tree_in : Built → Tree

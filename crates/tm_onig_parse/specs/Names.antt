@@ -3,7 +3,7 @@ use Rattle.std.specs.Prelude.{◌≡◌, ℕ, ◌+◌, ◌<◌, ◌≤◌, ◌==
 use Rattle.std.specs.List.{list_all}
 use Rattle.std.specs.Char.{is_ascii_digit, is_ascii_alphanumeric}
 use Rattle.std.specs.Str.Parse.{digits_value}
-use Rattle.tm_onig_parse.specs.Classes.{begins}
+use Rattle.tm_onig_atom.specs.Escapes.{begins}
 
 -- An ASCII letter, a digit or `_`.
 abbrev pub is_name_char : ℕ → Bool

@@ -1,20 +1,23 @@
 -- A second reading: one thing after another, over a stack of open groups.
 use Rattle.std.specs.Prelude.{ℕ, zero, suc, ◌+◌, ◌*◌, ◌==◌, ◌&&◌, nat_le, nat_lt, Bool, true, false, List, [], ◌∷◌, ◌++◌, length, Option, Some, None, option_map, if◌then◌else◌}
 use Rattle.std.specs.Char.{is_ascii_digit, digit_value}
-use Rattle.tm_onig_class.specs.Tree.{Tree}
-use Rattle.tm_onig_parse.specs.declared.options.Options.{Options}
+use Rattle.tm_onig_class.specs.Tree.{Tree, Holds}
+use Rattle.tm_onig_atom.specs.declared.options.Options.{Options}
 use Rattle.tm_onig_parse.specs.declared.groups.Opener.{Opener}
 use Rattle.tm_onig_parse.specs.declared.groups.Opener.TheVariants.{Captures, Groups, Sets, Keeps, Looks}
 use Rattle.tm_onig_parse.specs.declared.quantifiers.Manner.{Manner}
 use Rattle.tm_onig_parse.specs.declared.quantifiers.Manner.TheVariants.{Greedy, Lazy, Possessive, Optional, Again}
-use Rattle.tm_onig_parse.specs.declared.classes.Member.{Member}
-use Rattle.tm_onig_parse.specs.Characters.{no_options, single_tree, escape_tree}
-use Rattle.tm_onig_parse.specs.Classes.{begins}
+use Rattle.tm_onig_class.specs.declared.patterns.Position.{Position}
+use Rattle.tm_onig_atom.specs.ClassReading.{class_at}
+use Rattle.tm_onig_atom.specs.NoOptions.{no_options}
+use Rattle.tm_onig_atom.specs.Reading as Atom
+use Rattle.tm_onig_parse.specs.Characters.{single_tree, place_letter, is_later}
+use Rattle.tm_onig_atom.specs.Escapes.{begins}
 use Rattle.tm_onig_parse.specs.Names.{Names, is_name_char, starts_name, begins_digit, Key, Number, Name, meant_in}
 use Rattle.tm_onig_parse.specs.Options.{letter}
 use Rattle.tm_onig_parse.specs.Things.{is_blank, begins_reference, back_tree, sign_bounds, begun, count}
 use Rattle.tm_onig_parse.specs.Meaning.{Built, leaf, class_built, row_built, alts_built, enclosed, quantified}
-use Rattle.tm_onig_parse.specs.ClassReading.{◌>>=◌, rest_of, class_at}
+use Rattle.tm_onig_atom.specs.Reading.{◌>>=◌, rest_of}
 
 -- What is left of one thing once it is read.
 pub data Sym : Type 0 where
@@ -192,13 +195,23 @@ abbrev pub reference_at : Option Names → Options → List ℕ → Found
 reference_at names o [] = digits_ref names o []
 reference_at names o (c ∷ t) = if c == 107 then keyed_at names o t else digits_ref names o (c ∷ t)
 
+-- an escape, if there is one
+abbrev pub means_escape : Option (Tree × List ℕ) → Found
+means_escape None = None
+means_escape (Some x) = Some (Means (leaf x.0), x.1)
+
+-- a place, or else an escape
+abbrev pub place_or : Options → Option Position → ℕ → List ℕ → Found
+place_or o (Some place) c t = Some (Means (leaf (Holds place)), t)
+place_or o None c t = if is_later c then None else means_escape (Atom.escape_at o (c ∷ t))
+
 -- what stands behind a backslash
 unfoldable pub escape_at : Option Names → Options → List ℕ → Found
 escape_at names o [] = None
-escape_at names o (c ∷ t) = if begins_reference c then reference_at names o (c ∷ t) else means (escape_tree o c) t
+escape_at names o (c ∷ t) = if begins_reference c then reference_at names o (c ∷ t) else place_or o (place_letter c) c t
 
 -- a class, if there is one
-abbrev pub means_class : Option ((Bool × List Member) × List ℕ) → Found
+abbrev pub means_class : Option ((Tree × ℕ) × List ℕ) → Found
 means_class None = None
 means_class (Some x) = Some (Means (class_built x.0.0 x.0.1), x.1)
 
@@ -227,7 +240,7 @@ token_at names o (c ∷ t) =
     else if c == 41 then Some (Close, t)
     else if c == 124 then Some (Or, t)
     else if c == 92 then escape_at names o t
-    else if c == 91 then means_class (class_at t)
+    else if c == 91 then means_class (class_at 200 o t)
     else sign_or o (sign_bounds c) c t
 
 -- A group that is open: how it was opened, the number of the last capturing group then, the options

@@ -1,18 +1,20 @@
 -- The smallest things that are written, one after another, each under the options that hold where it
 -- begins.
-use Rattle.std.specs.Prelude.{◌≡◌, ℕ, ◌==◌, ◌&&◌, ◌||◌, not, Bool, true, false, List, [], ◌∷◌, ◌++◌, Option, Some, None, option_map, if◌then◌else◌}
+use Rattle.std.specs.Prelude.{◌≡◌, ℕ, ◌≤◌, ◌==◌, ◌&&◌, ◌||◌, not, Bool, true, false, List, [], ◌∷◌, ◌++◌, Option, Some, None, option_map, if◌then◌else◌}
 use Rattle.std.specs.List.{list_any}
 use Rattle.std.specs.Char.{is_ascii_digit}
 use Rattle.tm_onig_class.specs.Tree.{Tree, Back}
 use Rattle.tm_onig_class.specs.Listed.{in_listed}
 use Rattle.tm_onig_class.specs.declared.listed.Listed.TheVariants.{Space}
-use Rattle.tm_onig_parse.specs.declared.options.Options.{Options}
+use Rattle.tm_onig_atom.specs.declared.options.Options.{Options}
 use Rattle.tm_onig_parse.specs.declared.groups.Opener.{Opener}
 use Rattle.tm_onig_parse.specs.declared.groups.Opener.TheVariants.{Captures, Groups, Sets, Keeps, Looks}
 use Rattle.tm_onig_parse.specs.declared.quantifiers.Manner.{Manner}
 use Rattle.tm_onig_parse.specs.declared.quantifiers.Manner.TheVariants.{Greedy, Lazy, Possessive, Optional, Again}
-use Rattle.tm_onig_parse.specs.Characters.{single_tree, escape_tree}
-use Rattle.tm_onig_parse.specs.Classes.{Item, begins, class_text, IsClass}
+use Rattle.tm_onig_class.specs.declared.patterns.Position.{Position}
+use Rattle.tm_onig_atom.specs.Classes.{Class, class_text, IsClass, class_height, class_tree}
+use Rattle.tm_onig_atom.specs.Escapes.{begins, Escape, escape_head, escape_text, IsEscape, escape_tree}
+use Rattle.tm_onig_parse.specs.Characters.{single_tree, place_letter, is_later}
 use Rattle.tm_onig_parse.specs.Intervals.{Bounds, Exactly, bounds_text, IsBounds, NoBounds, least_in, greatest_in, AreLimited}
 use Rattle.tm_onig_parse.specs.Names.{Names, IsName, Reference, reference_text, IsReference, key_of, meant_in}
 use Rattle.tm_onig_parse.specs.Options.{switched}
@@ -25,19 +27,21 @@ is_blank = in_listed Space
 abbrev pub skips : Options → ℕ → Bool
 skips o c = o.extended && (is_blank c || (c == 35))
 
--- What matches by itself: a character or a sign with the tree that it means, the same behind a
--- backslash, a class, negated or not, or a reference with the tree that it means.
+-- What matches by itself, with the tree that it means: a character or a sign, an escape of a character or
+-- a set, a place that has a letter, a class, or a reference.
 pub data Atom : Type 0 where
   Plain : ℕ → Tree → Atom
-  Escaped : ℕ → Tree → Atom
-  Class : Bool → List Item → Atom
+  Escaped : Escape → Tree → Atom
+  Placed : ℕ → Position → Atom
+  Bracketed : Class → Tree → Atom
   Refers : Reference → Tree → Atom
 
 -- How it is spelled.
 abbrev pub atom_text : Atom → List ℕ
 atom_text (Plain c tree) = c ∷ []
-atom_text (Escaped c tree) = 92 ∷ c ∷ []
-atom_text (Class negated is) = class_text negated is
+atom_text (Escaped e tree) = 92 ∷ escape_text e
+atom_text (Placed c place) = 92 ∷ c ∷ []
+atom_text (Bracketed k tree) = class_text k
 atom_text (Refers r tree) = 92 ∷ reference_text r
 
 -- A character that begins a reference behind a backslash.
@@ -48,12 +52,15 @@ begins_reference c = (is_ascii_digit c && not (c == 48)) || (c == 107)
 abbrev pub back_tree : Options → List ℕ → Tree
 back_tree o groups = Back groups o.fold
 
--- It is one under these options, before what follows, where the pattern has these groups: a `{` begins
--- no bounds.
+-- It is one under these options, before what follows, where the pattern has these groups. A `{` begins
+-- no bounds. Behind a backslash a reference, a place, and a letter that is not read so far come before
+-- what is an escape in classes.
 abbrev pub IsAtom : Option Names → Atom → Options → List ℕ → Type 0
 IsAtom names (Plain c tree) o rest = (single_tree o c ≡ Some tree) × (skips o c ≡ false) × (c ≡ 123 → NoBounds rest)
-IsAtom names (Escaped c tree) o rest = (begins_reference c ≡ false) × (escape_tree o c ≡ Some tree)
-IsAtom names (Class negated is) o rest = IsClass negated is rest
+IsAtom names (Escaped e tree) o rest =
+    (begins_reference (escape_head e) ≡ false) × (place_letter (escape_head e) ≡ None) × (is_later (escape_head e) ≡ false) × IsEscape e rest × (escape_tree o e ≡ tree)
+IsAtom names (Placed c place) o rest = place_letter c ≡ Some place
+IsAtom names (Bracketed k tree) o rest = IsClass k rest × (class_height k ≤ 200) × (class_tree o k ≡ tree)
 IsAtom names (Refers r tree) o rest = IsReference r rest × (option_map (back_tree o) (meant_in names (key_of r)) ≡ Some tree)
 
 -- How a group begins: `(` captures, `(?<name>` and `(?'name'` too, `(?im-x:` only groups, under the

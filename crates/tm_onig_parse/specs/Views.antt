@@ -2,6 +2,8 @@
 use Rattle.std.specs.Prelude.{◌≡◌, ℕ, List, map, reverse, Option, Some, None, option_map, Vec, Result, Ok, Err}
 use Rattle.std.specs.declared.alloc.Global.{Global}
 use Rattle.tm_onig_class.specs.Tree.{tree_of}
+use Rattle.tm_onig_atom.specs.declared.fault.AtomFault.{AtomFault}
+use Rattle.tm_onig_atom.specs.declared.fault.AtomFault.TheVariants as A
 use Rattle.tm_onig_parse.specs.Meaning.{Built}
 use Rattle.tm_onig_parse.specs.Reading.{Sym, Means, Open, Switches, Close, Or, Repeats, Skips, Level, State, Outline}
 use Rattle.tm_onig_parse.specs.declared.ParseFault.{ParseFault}
@@ -30,6 +32,11 @@ Gives view (Err fault) read = Fails fault read
 abbrev pub Steps : {X : Type 0} → Result Unit ParseFault → X → Option X → Type 0
 Steps (Ok done) new read = read ≡ Some new
 Steps (Err fault) new read = Fails fault read
+
+-- The same fault.
+abbrev pub FaultOf : AtomFault → ParseFault → Type 0
+FaultOf A.Unreadable fault = fault ≡ Unreadable
+FaultOf A.OutOfMemory fault = fault ≡ OutOfMemory
 
 -- what a part stands for
 abbrev pub built_of : Part → Built

@@ -4,11 +4,11 @@ ghost use Rattle.tm_onig_parse.specs.Reading.{fresh, level_built, next_row};
 ghost use Rattle.tm_onig_parse.specs.Views.{Gives, Steps, built_of, level_of_frame};
 
 use crate::ParseFault;
-use crate::options::Options;
 use crate::part::Part;
 use crate::parts::{alternatives_of, push, row_of};
 use std::alloc::Global;
 use std::mem;
+use tm_onig_atom::options::Options;
 
 /// How a group is opened.
 #[derive(Clone, Copy, Debug, PartialEq, Eq)]

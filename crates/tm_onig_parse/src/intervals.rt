@@ -1,9 +1,9 @@
 //! Bounds between braces. They are told from a `{` that is a character, and only then read.
 ghost use Rattle.std.specs.Prelude.{◌≡◌, ◌<◌, ◌+◌, ◌*◌, option_map, Some};
-ghost use Rattle.tm_onig_parse.specs.ClassReading.{rest_of};
+ghost use Rattle.tm_onig_atom.specs.Reading.{rest_of};
 ghost use Rattle.tm_onig_parse.specs.Reading.{digits_at, ends_bounds, after_digits, bounds_at, limited, with_digit, number_at, ordered, second_at, first_at, interval_at};
 
-use crate::classes::tail;
+use tm_onig_atom::slices::tail;
 
 /// How often something is repeated at most, as far as bounds say a number.
 const MOST_TIMES: u32 = 100_000;

@@ -11,15 +11,13 @@ ghost use Rattle.tm_onig_class.specs.Tree.{Tree, tree_of};
 ghost use Rattle.tm_onig_parse.specs.Grammar.{Body};
 ghost use Rattle.tm_onig_parse.specs.Meaning.{Spells, meaning};
 ghost use Rattle.tm_onig_parse.specs.Reading.{parsed};
-ghost use Rattle.tm_onig_parse.specs.Views.{Gives};
+ghost use Rattle.tm_onig_parse.specs.Views.{FaultOf, Gives};
 
-mod class_sets;
-mod classes;
 mod groups;
 mod intervals;
+mod letters;
 mod names;
 mod openings;
-mod options;
 mod outlines;
 mod part;
 mod parts;
@@ -30,6 +28,7 @@ mod tokens;
 
 use std::alloc::Global;
 use tm_defs::texts::Name;
+use tm_onig_atom::AtomFault;
 use tm_onig_class::patterns::Pattern;
 
 /// Why there is no pattern.
@@ -38,6 +37,16 @@ pub enum ParseFault {
     /// The text is not in the grammar. Only then.
     Unreadable,
     OutOfMemory,
+}
+
+/// The same fault of a whole pattern.
+fn fault_of(fault: AtomFault) -> ParseFault
+    ensures { FaultOf fault result }
+{
+    match fault {
+        AtomFault::Unreadable => ParseFault::Unreadable,
+        AtomFault::OutOfMemory => ParseFault::OutOfMemory,
+    }
 }
 
 /// The pattern that a text spells, after Oniguruma's syntax for Ruby. `Unreadable` comes exactly

@@ -1,13 +1,13 @@
 //! Names of groups.
 ghost use Rattle.std.specs.Prelude.{◌≡◌, Some};
-ghost use Rattle.tm_onig_parse.specs.Classes.{begins};
+ghost use Rattle.tm_onig_atom.specs.Escapes.{begins};
 ghost use Rattle.tm_onig_parse.specs.Names.{is_name_char, starts_name};
 ghost use Rattle.tm_onig_parse.specs.Reading.{name_at, name_to};
 ghost use Rattle.tm_onig_parse.specs.Views.{Gives};
 
 use crate::ParseFault;
-use crate::classes::tail;
 use std::alloc::Global;
+use tm_onig_atom::slices::tail;
 
 /// The capturing groups of a pattern, as far as they are known.
 #[derive(Drop)]

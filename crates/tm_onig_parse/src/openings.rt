@@ -7,9 +7,10 @@ ghost use Rattle.tm_onig_parse.specs.Views.{Gives, sym_of_token};
 use crate::ParseFault;
 use crate::groups::Opener;
 use crate::names::name_to;
-use crate::options::{Options, letter};
+use crate::letters::letter;
 use crate::tokens::Token;
 use std::alloc::Global;
+use tm_onig_atom::options::Options;
 
 /// What follows `(?#`: up to the next `)` it means nothing.
 #[tactic(auto, unfolding(crate::specs::Reading::comment_at))]

@@ -9,11 +9,12 @@ ghost use Rattle.tm_onig_parse.specs.Views.{Gives, Steps, name_of_chars, names_k
 
 use crate::groups::Opener;
 use crate::names::GroupNames;
-use crate::options::Options;
 use crate::tokens::{Token, next_token};
-use crate::{ParseFault, options};
+use crate::ParseFault;
 use std::alloc::Global;
 use std::mem;
+use tm_onig_atom::options::{Options, none};
+use tm_onig_atom::store::Sets;
 
 /// What is known so far.
 #[derive(Drop)]
@@ -79,6 +80,7 @@ fn take(outline: &mut Outlines, token: Token) -> Result<(), ParseFault>
 /// The groups of the text, of which none is known yet.
 fn names_from(
     alloc: Global,
+    sets: &mut Sets,
     unread: &GroupNames,
     text: &[char],
 ) -> Result<Vec<Option<Vec<char>>>, ParseFault>
@@ -87,12 +89,12 @@ fn names_from(
 {
     let mut outline = Outlines {
         outer: Vec::new(alloc),
-        top: options::none(),
+        top: none(),
         names: Vec::new(alloc),
     };
     let mut rest = text;
     while !rest.is_empty() {
-        let (token, after) = match next_token(alloc, unread, outline.top, rest) {
+        let (token, after) = match next_token(alloc, sets, unread, outline.top, rest) {
             Ok(found) => found,
             Err(fault) => return Err(fault),
         };
@@ -106,8 +108,12 @@ fn names_from(
 }
 
 /// The groups of the text.
-pub fn group_names(alloc: Global, text: &[char]) -> Result<Vec<Option<Vec<char>>>, ParseFault>
+pub fn group_names(
+    alloc: Global,
+    sets: &mut Sets,
+    text: &[char],
+) -> Result<Vec<Option<Vec<char>>>, ParseFault>
     ensures { Gives (λ v. map name_of_chars v.items) result (names_onward outline_start text.now) }
 {
-    names_from(alloc, &GroupNames::Unread, text)
+    names_from(alloc, sets, &GroupNames::Unread, text)
 }

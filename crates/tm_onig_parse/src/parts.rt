@@ -1,8 +1,8 @@
 //! What is made of parts: rows, alternatives, groups and repetitions.
-ghost use Rattle.std.specs.Prelude.{◌≡◌, ◌≤◌, ◌+◌, false, nat_lt, if◌then◌else◌, Some, ◌++◌, ◌∷◌, [], map};
+ghost use Rattle.std.specs.Prelude.{◌≡◌, ◌≤◌, ◌+◌, false, true, nat_lt, if◌then◌else◌, Some, ◌++◌, ◌∷◌, [], map};
 ghost use Rattle.tm_onig_class.specs.Tree.{tree_of};
 ghost use Rattle.tm_onig_class.specs.Widths.{least_width};
-ghost use Rattle.tm_onig_parse.specs.Meaning.{leaf, row_built, alts_built, enclosed, repeated, highest, any_takes, all_take, tree_in};
+ghost use Rattle.tm_onig_parse.specs.Meaning.{leaf, class_built, row_built, alts_built, enclosed, repeated, highest, any_takes, all_take, tree_in};
 ghost use Rattle.tm_onig_parse.specs.Reading.{within};
 ghost use Rattle.tm_onig_parse.specs.Views.{Gives, Steps, built_of};
 
@@ -23,6 +23,21 @@ pub fn leaf(pattern: Pattern, takes: bool) -> Part
         height: 0,
         repeated: false,
         takes,
+    }
+}
+
+/// A class, with how deep it is nested.
+pub fn class_part(class: (Pattern, u32)) -> Part
+    requires low { class.1 ≤ 200 }
+    requires wide { nat_lt 0 (least_width (tree_of class.0)) ≡ true }
+    ensures { built_of result ≡ class_built (tree_of class.0) class.1 }
+{
+    let (pattern, height) = class;
+    Part {
+        pattern,
+        height,
+        repeated: false,
+        takes: true,
     }
 }
 

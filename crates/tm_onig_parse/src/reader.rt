@@ -3,21 +3,22 @@ ghost use Rattle.std.specs.Prelude.{OnOk, ◌≡◌, ◌≤◌, ◌+◌, ◌∷�
 ghost use Rattle.tm_onig_class.specs.Tree.{tree_of};
 ghost use Rattle.tm_onig_parse.specs.Things.{count};
 ghost use Rattle.tm_onig_parse.specs.Reading.{Close, step, change_last, more_times, is_set, settled, close_in, entered, open_in, finish_in, finish, start, onward, parsed};
-ghost use Rattle.tm_onig_parse.specs.declared.groups.Opener.TheVariants.{Sets};
+ghost use Rattle.tm_onig_parse.specs.declared.groups.Opener.TheVariants.{Sets as BySetting};
 ghost use Rattle.tm_onig_parse.specs.Views.{Gives, Steps, built_of, level_of_frame, names_known, state_of_reader, sym_of_token};
 
 use crate::groups::{Frame, Opener, end_row, fresh, whole};
 use crate::names::GroupNames;
-use crate::options::Options;
 use crate::outlines::group_names;
 use crate::part::Part;
 use crate::parts::{group, push};
 use crate::quantifiers::{Manner, quantify};
 use crate::tokens::{Token, next_token};
-use crate::{ParseFault, options};
+use crate::ParseFault;
 use std::alloc::Global;
 use std::mem;
 use tm_onig_class::patterns::Pattern;
+use tm_onig_atom::options::{Options, none};
+use tm_onig_atom::store::Sets;
 
 /// How many characters a pattern has at most.
 const LONGEST: usize = 65_536;
@@ -97,7 +98,7 @@ fn open(
 
 /// Sets options to the end of the group.
 fn switch(alloc: Global, reader: &mut Reader, options: Options) -> Result<(), ParseFault>
-    ensures { let old = state_of_reader reader.old in Steps result (state_of_reader reader.new) (Some (entered Sets old.opened options old)) }
+    ensures { let old = state_of_reader reader.old in Steps result (state_of_reader reader.new) (Some (entered BySetting old.opened options old)) }
 {
     let inner = fresh(alloc, Opener::Sets, reader.opened, options);
     enter(reader, inner)
@@ -216,17 +217,17 @@ fn end(alloc: Global, mut reader: Reader) -> Result<Pattern, ParseFault>
 }
 
 /// The pattern that the text spells, however long it is, where it has these groups.
-fn read_all(alloc: Global, groups: &GroupNames, text: &[char]) -> Result<Pattern, ParseFault>
+fn read_all(alloc: Global, sets: &mut Sets, groups: &GroupNames, text: &[char]) -> Result<Pattern, ParseFault>
     ensures { Gives tree_of result (onward (names_known groups.now) start text.now) }
 {
     let mut reader = Reader {
         outer: Vec::new(alloc),
-        top: fresh(alloc, Opener::Groups, 0, options::none()),
+        top: fresh(alloc, Opener::Groups, 0, none()),
         opened: 0,
     };
     let mut rest = text;
     while !rest.is_empty() {
-        let (token, after) = match next_token(alloc, groups, reader.top.options, rest) {
+        let (token, after) = match next_token(alloc, sets, groups, reader.top.options, rest) {
             Ok(found) => found,
             Err(fault) => return Err(fault),
         };
@@ -245,8 +246,9 @@ pub fn read(alloc: Global, text: &[char]) -> Result<Pattern, ParseFault>
     if text.len() > LONGEST {
         return Err(ParseFault::Unreadable);
     }
-    match group_names(alloc, text) {
-        Ok(names) => read_all(alloc, &GroupNames::Read(names), text),
+    let mut sets = Sets::new(alloc);
+    match group_names(alloc, &mut sets, text) {
+        Ok(names) => read_all(alloc, &mut sets, &GroupNames::Read(names), text),
         Err(fault) => Err(fault),
     }
 }

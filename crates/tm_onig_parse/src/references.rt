@@ -7,15 +7,15 @@ ghost use Rattle.tm_onig_parse.specs.Things.{begins_reference, back_tree};
 ghost use Rattle.tm_onig_parse.specs.Views.{Gives, sym_of_token, names_known, name_of_chars};
 
 use crate::ParseFault;
-use crate::classes::tail;
 use crate::intervals::number;
 use crate::names::{GroupNames, begins, name_to};
-use crate::options::Options;
 use crate::parts::leaf;
 use crate::tokens::Token;
 use sqlite_items::Items;
 use std::alloc::Global;
 use tm_onig_class::patterns::Pattern;
+use tm_onig_atom::options::Options;
+use tm_onig_atom::slices::tail;
 
 /// Whether the character begins a reference behind a backslash.
 pub fn begins_reference(c: char) -> bool

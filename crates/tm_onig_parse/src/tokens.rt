@@ -1,27 +1,28 @@
 //! The smallest things that are written, one at a time.
-ghost use Rattle.std.specs.Prelude.{◌≡◌, option_map, Some};
+ghost use Rattle.std.specs.Prelude.{◌≡◌, ◌∷◌, option_map, Some};
 ghost use Rattle.tm_onig_class.specs.Tree.{tree_of};
-ghost use Rattle.tm_onig_parse.specs.Characters.{single_tree, escape_tree, letter_tree, set_or_char, set_letter, escaped_char, place_letter};
+ghost use Rattle.tm_onig_atom.specs.ClassReading.{class_at};
+ghost use Rattle.tm_onig_atom.specs.Reading as Atom;
+ghost use Rattle.tm_onig_parse.specs.Characters.{single_tree, place_letter};
 ghost use Rattle.tm_onig_parse.specs.Things.{sign_bounds};
 ghost use Rattle.tm_onig_parse.specs.Meaning.{leaf};
-ghost use Rattle.tm_onig_parse.specs.ClassReading.{class_at};
-ghost use Rattle.tm_onig_parse.specs.Reading.{token_at, times_at, lazily_exact, interval_at, braces_at, escape_at, line_end, bounds_or, sign_or, means_class};
+ghost use Rattle.tm_onig_parse.specs.Reading.{token_at, times_at, lazily_exact, interval_at, braces_at, means_escape, place_or, escape_at, line_end, bounds_or, sign_or, means_class};
 ghost use Rattle.tm_onig_parse.specs.Views.{Gives, sym_of_token, built_of, names_known};
 
-use crate::ParseFault;
-use crate::class_sets::{class_part, letter_set};
-use crate::classes::{class, escaped, letter};
+use crate::{ParseFault, fault_of};
 use crate::groups::Opener;
 use crate::intervals::{bounds, interval};
 use crate::names::GroupNames;
 use crate::openings::open;
-use crate::options::Options;
-use crate::part::Part;
-use crate::parts::leaf;
+use crate::part::{DEEPEST, Part};
+use crate::parts::{class_part, leaf};
 use crate::quantifiers::Manner;
 use crate::references::{begins_reference, reference};
 use std::alloc::Global;
-use tm_onig_class::listed::{Listed, is_space};
+use tm_onig_atom::atoms::{class, escape};
+use tm_onig_atom::options::Options;
+use tm_onig_atom::store::Sets;
+use tm_onig_class::listed::is_space;
 use tm_onig_class::patterns::{Pattern, Position};
 
 /// One thing that is written, by what it means.
@@ -138,34 +139,6 @@ fn braces(text: &[char]) -> Result<(Token, &[char]), ParseFault>
     }
 }
 
-/// The set of a letter.
-#[tactic(auto, using(tm_onig_class::proofs::Trees::nodes), unfolding(tm_onig_class::specs::Widths::least_width))]
-fn letter_part(alloc: Global, options: Options, letter: (Listed, bool)) -> Result<Part, ParseFault>
-    ensures { Gives built_of result (Some (leaf (letter_tree options letter))) }
-{
-    let Ok(set) = letter_set(alloc, letter) else {
-        return Err(ParseFault::OutOfMemory);
-    };
-    set.exact();
-    let fold = options.fold;
-    Ok(leaf(Pattern::Set { set, fold }, true))
-}
-
-/// A set, or the character that an escape stands for.
-#[tactic(auto, using(tm_onig_class::proofs::Trees::nodes), unfolding(tm_onig_class::specs::Widths::least_width))]
-fn set_or_char(alloc: Global, options: Options, c: char) -> Result<Part, ParseFault>
-    ensures { Gives built_of result (option_map leaf (set_or_char options (set_letter c) (escaped_char c))) }
-{
-    if let Some(letter) = letter(c) {
-        return letter_part(alloc, options, letter);
-    }
-    let fold = options.fold;
-    match escaped(c) {
-        Some(c) => Ok(leaf(Pattern::Char { c, fold }, true)),
-        None => Err(ParseFault::Unreadable),
-    }
-}
-
 /// The place that a letter stands for behind a backslash.
 #[tactic(auto, unfolding(crate::specs::Characters::place_letter))]
 fn place(c: char) -> Option<Position>
@@ -180,24 +153,48 @@ fn place(c: char) -> Option<Position>
     }
 }
 
-/// What a character means behind a backslash.
-#[tactic(auto, using(tm_onig_class::proofs::Trees::nodes), unfolding(crate::specs::Characters::escape_tree, crate::specs::Characters::is_later, tm_onig_class::specs::Widths::least_width))]
-fn escape_part(alloc: Global, options: Options, c: char) -> Result<Part, ParseFault>
-    ensures { Gives built_of result (option_map leaf (escape_tree options c)) }
+/// What is an escape in classes too.
+fn escaped<'a>(
+    alloc: Global,
+    sets: &mut Sets,
+    options: Options,
+    text: &'a [char],
+) -> Result<(Token, &'a [char]), ParseFault>
+    ensures { Gives (λ x. (sym_of_token x.0, x.1.now)) result (means_escape (Atom.escape_at options text.now)) }
+{
+    match escape(alloc, sets, options, text) {
+        Ok((pattern, rest)) => Ok((Token::Means(leaf(pattern, true)), rest)),
+        Err(fault) => Err(fault_of(fault)),
+    }
+}
+
+/// A place, or else an escape.
+#[tactic(auto, using(tm_onig_class::proofs::Trees::nodes), unfolding(crate::specs::Characters::is_later, tm_onig_class::specs::Widths::least_width))]
+fn place_or<'a>(
+    alloc: Global,
+    sets: &mut Sets,
+    options: Options,
+    c: char,
+    text: &'a [char],
+    rest: &'a [char],
+) -> Result<(Token, &'a [char]), ParseFault>
+    requires { text.now ≡ c ∷ rest.now }
+    ensures { Gives (λ x. (sym_of_token x.0, x.1.now)) result (place_or options (place_letter c) c rest.now) }
 {
     if let Some(place) = place(c) {
-        return Ok(leaf(Pattern::Position(place), false));
+        return Ok((Token::Means(leaf(Pattern::Position(place), false)), rest));
     }
     match c {
-        'k' | 'A' | 'G' => Err(ParseFault::Unreadable),
-        _ => set_or_char(alloc, options, c),
+        'A' | 'G' => Err(ParseFault::Unreadable),
+        _ => escaped(alloc, sets, options, text),
     }
 }
 
 /// What follows a backslash.
 #[tactic(auto, unfolding(crate::specs::Reading::escape_at))]
-fn escape<'a>(
+fn behind_slash<'a>(
     alloc: Global,
+    sets: &mut Sets,
     groups: &GroupNames,
     options: Options,
     text: &'a [char],
@@ -209,26 +206,24 @@ fn escape<'a>(
             if begins_reference(*c) {
                 return reference(alloc, groups, options, text);
             }
-            match escape_part(alloc, options, *c) {
-                Ok(part) => Ok((Token::Means(part), rest)),
-                Err(fault) => Err(fault),
-            }
+            place_or(alloc, sets, options, *c, text, rest)
         }
         _ => Err(ParseFault::Unreadable),
     }
 }
 
 /// What follows a `[`.
-fn brackets(alloc: Global, text: &[char]) -> Result<(Token, &[char]), ParseFault>
-    ensures { Gives (λ x. (sym_of_token x.0, x.1.now)) result (means_class (class_at text.now)) }
+fn brackets<'a>(
+    alloc: Global,
+    sets: &mut Sets,
+    options: Options,
+    text: &'a [char],
+) -> Result<(Token, &'a [char]), ParseFault>
+    ensures { Gives (λ x. (sym_of_token x.0, x.1.now)) result (means_class (class_at 200 options text.now)) }
 {
-    let ((negated, members), rest) = match class(alloc, text) {
-        Ok(found) => found,
-        Err(fault) => return Err(fault),
-    };
-    match class_part(alloc, negated, &members) {
-        Ok(part) => Ok((Token::Means(part), rest)),
-        Err(fault) => Err(fault),
+    match class(alloc, sets, options, DEEPEST, text) {
+        Ok((found, rest)) => Ok((Token::Means(class_part(found)), rest)),
+        Err(fault) => Err(fault_of(fault)),
     }
 }
 
@@ -282,6 +277,7 @@ fn sign_or(options: Options, c: char, text: &[char]) -> Result<(Token, &[char]),
 #[tactic(auto, unfolding(crate::specs::Reading::token_at))]
 pub fn next_token<'a>(
     alloc: Global,
+    sets: &mut Sets,
     groups: &GroupNames,
     options: Options,
     text: &'a [char],
@@ -292,8 +288,8 @@ pub fn next_token<'a>(
         ['(', rest @ ..] => open(alloc, options, rest),
         [')', rest @ ..] => Ok((Token::Close, rest)),
         ['|', rest @ ..] => Ok((Token::Or, rest)),
-        ['\\', rest @ ..] => escape(alloc, groups, options, rest),
-        ['[', rest @ ..] => brackets(alloc, rest),
+        ['\\', rest @ ..] => behind_slash(alloc, sets, groups, options, rest),
+        ['[', rest @ ..] => brackets(alloc, sets, options, rest),
         [c, rest @ ..] => sign_or(options, *c, rest),
         [] => Err(ParseFault::Unreadable),
     }
