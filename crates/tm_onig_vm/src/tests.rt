@@ -3,7 +3,7 @@ ghost use Rattle.std.specs.Prelude.{◌<◌, ◌^◌, length, IfOk};
 use crate::code::{Instr, code_of};
 use crate::fault::FindFault;
 use crate::plain::find_plainly;
-use crate::program::{compile, find};
+use crate::program::{compile, find, instructions};
 use crate::table_alone::{AHEAD, ATOMIC, BEHIND};
 use crate::table_loops::LOOPS;
 use crate::table_places::{PLACES_HELD, REFERENCES};
@@ -228,6 +228,7 @@ fn code_is_as_listed(rt: HostRuntime) -> Result<(), Fail> {
         assert_eq!(rt; written(alloc, instr)?.as_str(), *wanted);
     }
     let prog = compile(alloc, &pattern)?;
+    assert_eq!(rt; instructions(&prog), 10);
     let text = line(alloc, "abc")?;
     let mut budget = 100;
     let found = find(alloc, &prog, &text, 0, true, true, &mut budget)?;
@@ -235,6 +236,13 @@ fn code_is_as_listed(rt: HostRuntime) -> Result<(), Fail> {
         shown(alloc, &found, 100 - budget)?.as_str(),
         "0..3 1..2; 21"
     );
+    let counted = Pattern::Repeat {
+        body: Box::new(alloc, pattern)?,
+        least: 2,
+        greatest: Some(100_000),
+        greedy: true,
+    };
+    assert_eq!(rt; instructions(&compile(alloc, &counted)?), 12);
     Ok(())
 }
 
