@@ -12,9 +12,8 @@ ghost use Rattle.std.specs.Prelude.{◌<◌, ◌^◌, length};
 
 use sqlite_items::Items;
 use std::alloc::Global;
-use std::env;
-use std::io;
 use std::io::{BufRead, BufReader};
+use std::{env, io};
 use tm_defs::memory::OutOfMemory;
 use tm_defs::texts::{Line, Name};
 use tm_onig_class::listed::Listed;
