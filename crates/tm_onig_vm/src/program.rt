@@ -65,8 +65,8 @@ pub fn compile(alloc: Global, pattern: &Pattern) -> Result<Prog, OutOfMemory>
     })
 }
 
-/// How many instructions the program has: one to four for each part of the pattern, whatever the counts of
-/// its loops.
+/// How many instructions the program has: one to three for each node of the pattern's tree, and one more,
+/// whatever the counts of its loops.
 pub fn instructions(prog: &Prog) -> usize
     ensures { result ≡ code_size (tree_of prog.now) + 1 }
 {
