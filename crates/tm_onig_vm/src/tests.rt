@@ -17,8 +17,8 @@ use tm_onig_class::listed::Listed;
 use tm_onig_class::patterns::{Pattern, Position};
 use tm_onig_class::sets::Set;
 
-/// A tree, a text, the start, which of `\A` and `\G` may match, and the groups with the cost, both worked
-/// out by hand from the table of cases (`SearchRows`).
+/// A tree, a text, the start, which of `\A` and `\G` may match, and the groups with the cost, both as the
+/// table of cases (`SearchRows`) gives them.
 pub(crate) type Row = (&'static str, &'static str, u32, &'static str, &'static str);
 
 /// A line of the table: they are short.
@@ -127,7 +127,8 @@ fn node(alloc: Global, stack: &mut Vec<Pattern>, sign: &[char]) -> Result<Patter
 }
 
 /// The tree of the short notation: `'a` is the character a, `"a` without regard to case, and a sign
-/// behind trees takes them as its parts, as in `'a'bC2`, a row of two, and `'a{0-g`, a greedy loop.
+/// behind trees takes them as its parts, as in `'a'bC2`, a row of two, and `'a{0-g`, a greedy loop. `\1` is a
+/// reference to the group 1, and `k12` one to the last of two groups that is set.
 fn tree(alloc: Global, text: &str) -> Result<Pattern, Fail> {
     let mut stack = Vec::new(alloc);
     let mut sign: Vec<char> = Vec::new(alloc);
