@@ -11,7 +11,8 @@ use Rattle.std.specs.Prelude.{option_map}
 use Rattle.tm_onig_class.specs.Widths.{least_width}
 use Rattle.tm_onig_search.specs.Widths.{greatest_width}
 use Rattle.tm_onig_vm.specs.Near.{near}
-use Rattle.tm_onig_vm.specs.Code.{Code, AheadCode, BehindCode, RowCode, AnyCode, Grows}
+use Rattle.tm_onig_vm.specs.Size.{code_size, code_sizes}
+use Rattle.tm_onig_vm.specs.Code.{Code, AheadCode, BehindCode, RowCode, AnyCode, Grows, Adds}
 
 get_push_old : (xs : List Instr) (y x : Instr) (i : ℕ) → slice_get xs i ≡ Some x → slice_get (xs ++ y ∷ []) i ≡ Some x
 get_push_old [] y x i e = absurd (none-some x e)
@@ -33,6 +34,18 @@ get_set_other (z ∷ xs) zero zero y apart = absurd (apart refl)
 get_set_other (z ∷ xs) zero (suc j) y apart = refl
 get_set_other (z ∷ xs) (suc i) zero y apart = refl
 get_set_other (z ∷ xs) (suc i) (suc j) y apart = get_set_other xs i j y (λ e. apart (ap suc e))
+
+length_push : (xs : List Instr) (y : Instr) → length (xs ++ y ∷ []) ≡ length xs + 1
+length_push [] y = refl
+length_push (z ∷ xs) y = let rest = length_push xs y in omega arith
+
+length_set : (xs : List Instr) (i : ℕ) (y : Instr) → length (slice_set xs i y) ≡ length xs
+length_set [] i y = refl
+length_set (z ∷ xs) zero y = refl
+length_set (z ∷ xs) (suc i) y = ap suc (length_set xs i y)
+
+pub adds_push : (xs ys : List Instr) (y : Instr) → ys ≡ xs ++ y ∷ [] → Adds xs ys 1
+adds_push xs ys y is = rw is (length_push xs y)
 
 -- each instruction that was made stays
 abbrev Extends : List Instr → List Instr → Type 0
@@ -103,6 +116,9 @@ module _ (old code1 new : List Instr) (i : Instr) (pc next : ℕ) (grows : Grows
   abbrev grows_on : Grows code1 new
   grows_on = grows_push code1 new i pushed
 
+  one_more : Adds code1 new 1
+  one_more = adds_push code1 new i pushed
+
   all_grows : Grows old new
   all_grows = grows_trans old code1 new grows grows_on
 
@@ -110,28 +126,39 @@ module _ (old code1 new : List Instr) (i : Instr) (pc next : ℕ) (grows : Grows
   more j x e made = grows_on j x e
 
   -- the instruction of a pattern that is a single one, or whose parts were made before
-  pub leaf_done : (t : Tree) → (slice_get new pc ≡ Some i → Code new t pc next) → Grows old new × Code new t pc next
-  leaf_done t here = (all_grows, here (at_push code1 new i pc pushed at))
+  pub leaf_done : (t : Tree) → (slice_get new pc ≡ Some i → Code new t pc next) → Adds old code1 0 → code_size t ≡ 1 → Grows old new × Code new t pc next × Adds old new (code_size t)
+  leaf_done t here none one = (all_grows, here (at_push code1 new i pc pushed at), let more1 = one_more in omega arith)
 
-  pub cat_done : (ts : Trees) (first : ℕ) → i ≡ I.Step first → RowCode code1 ts first next → Grows old new × Code new (Cat ts) pc next
-  cat_done ts first is row = (all_grows, (first, rw is at (at_push code1 new i pc pushed at), row_extends code1 new more ts first next row))
+  pub cat_done : (ts : Trees) (first : ℕ) → i ≡ I.Step first → RowCode code1 ts first next → Adds old code1 (code_sizes ts) →
+      Grows old new × Code new (Cat ts) pc next × Adds old new (code_size (Cat ts))
+  cat_done ts first is row adds =
+      (all_grows, (first, rw is at (at_push code1 new i pc pushed at), row_extends code1 new more ts first next row), let more1 = one_more in omega arith)
 
-  pub alt_done : (ts : Trees) (targets : List ℕ) → i ≡ I.Choice targets → AnyCode code1 ts targets next → Grows old new × Code new (Alt ts) pc next
-  alt_done ts targets is any = (all_grows, (targets, rw is at (at_push code1 new i pc pushed at), any_extends code1 new more ts targets next any))
+  pub alt_done : (ts : Trees) (targets : List ℕ) → i ≡ I.Choice targets → AnyCode code1 ts targets next → Adds old code1 (code_sizes ts) →
+      Grows old new × Code new (Alt ts) pc next × Adds old new (code_size (Alt ts))
+  alt_done ts targets is any adds =
+      (all_grows, (targets, rw is at (at_push code1 new i pc pushed at), any_extends code1 new more ts targets next any), let more1 = one_more in omega arith)
 
-  pub group_done : (number : ℕ) (t : Tree) (first last : ℕ) → i ≡ I.Open first → Code code1 t first last → slice_get code1 last ≡ Some (I.Close number next) → Grows old new × Code new (Group number t) pc next
-  group_done number t first last is body close =
-      (all_grows, (first, last, rw is at (at_push code1 new i pc pushed at), code_extends code1 new more t first last body, grows_on last (I.Close number next) close))
+  pub group_done : (number : ℕ) (t : Tree) (first last : ℕ) → i ≡ I.Open first → Code code1 t first last → slice_get code1 last ≡ Some (I.Close number next) → Adds old code1 (code_size t + 1) →
+      Grows old new × Code new (Group number t) pc next × Adds old new (code_size (Group number t))
+  group_done number t first last is body close adds = (
+    all_grows,
+    (first, last, rw is at (at_push code1 new i pc pushed at), code_extends code1 new more t first last body, grows_on last (I.Close number next) close),
+    let more1 = one_more in omega arith,
+  )
 
-  pub ahead_done : (t : Tree) (negative stays : Bool) (first last : ℕ) → i ≡ I.Ahead first negative stays next → Code code1 t first last → slice_get code1 last ≡ Some I.Accept →
-      Grows old new × AheadCode new t negative stays pc next
-  ahead_done t negative stays first last is body accept =
-      (all_grows, (first, last, rw is at (at_push code1 new i pc pushed at), code_extends code1 new more t first last body, grows_on last I.Accept accept))
+  pub ahead_done : (t : Tree) (negative stays : Bool) (first last : ℕ) → i ≡ I.Ahead first negative stays next → Code code1 t first last → slice_get code1 last ≡ Some I.Accept → Adds old code1 (code_size t + 1) →
+      Grows old new × AheadCode new t negative stays pc next × Adds old new (code_size t + 2)
+  ahead_done t negative stays first last is body accept adds = (
+    all_grows,
+    (first, last, rw is at (at_push code1 new i pc pushed at), code_extends code1 new more t first last body, grows_on last I.Accept accept),
+    let more1 = one_more in omega arith,
+  )
 
   pub behind_done : (t : Tree) (negative : Bool) (least : ℕ) (greatest : Option ℕ) (first last end : ℕ) → i ≡ I.Behind first negative least greatest next →
-      least ≡ near (least_width t) → greatest ≡ option_map near (greatest_width t) → Code code1 t first last → slice_get code1 last ≡ Some (I.Arrive end) → slice_get code1 end ≡ Some I.Accept →
-      Grows old new × BehindCode new t negative pc next
-  behind_done t negative least greatest first last end is least_is greatest_is body arrive accept = (
+      least ≡ near (least_width t) → greatest ≡ option_map near (greatest_width t) → Code code1 t first last → slice_get code1 last ≡ Some (I.Arrive end) → slice_get code1 end ≡ Some I.Accept → Adds old code1 (code_size t + 2) →
+      Grows old new × BehindCode new t negative pc next × Adds old new (code_size t + 3)
+  behind_done t negative least greatest first last end is least_is greatest_is body arrive accept adds = (
     all_grows,
     (
       first,
@@ -142,11 +169,12 @@ module _ (old code1 new : List Instr) (i : Instr) (pc next : ℕ) (grows : Grows
       grows_on last (I.Arrive end) arrive,
       grows_on end I.Accept accept,
     ),
+    let more1 = one_more in omega arith,
   )
 
 -- a hole, the body, the hole filled, and the loop
 module _ (old code1 code2 code3 new : List Instr) (t : Tree) (least : ℕ) (greatest : Option ℕ) (greedy : Bool) (first last pc next : ℕ)
-    (hole : code1 ≡ old ++ I.Hole ∷ []) (at_hole : last ≡ length old) (grows : Grows code1 code2) (body : Code code2 t first last)
+    (hole : code1 ≡ old ++ I.Hole ∷ []) (at_hole : last ≡ length old) (grows : Grows code1 code2) (body : Code code2 t first last) (adds : Adds code1 code2 (code_size t))
     (filled : code3 ≡ slice_set code2 last (I.Again first least greatest greedy next)) (pushed : new ≡ code3 ++ I.Loop first least greatest greedy next ∷ []) (at : pc ≡ length code3) where
   hole_is : slice_get code2 last ≡ Some I.Hole
   hole_is = grows last I.Hole (at_push old code1 I.Hole last hole at_hole)
@@ -160,7 +188,13 @@ module _ (old code1 code2 code3 new : List Instr) (t : Tree) (least : ℕ) (grea
       let apart : last ≡ i → ⊥ = λ same. omega arith in
       rw filled (get_set_other code2 last i (I.Again first least greatest greedy next) apart ∙ grows i x (grows_push old code1 I.Hole hole i x e))
 
-  pub repeat_done : Grows old new × Code new (Repeat t least greatest greedy) pc next
+  adds4 : Adds old new (code_size t + 2)
+  adds4 =
+      let one : Adds old code1 1 = adds_push old code1 I.Hole hole in
+      let same : length code3 ≡ length code2 = rw filled (length_set code2 last (I.Again first least greatest greedy next)) in
+      let two : Adds code3 new 1 = adds_push code3 new (I.Loop first least greatest greedy next) pushed in omega arith
+
+  pub repeat_done : Grows old new × Code new (Repeat t least greatest greedy) pc next × Adds old new (code_size t + 2)
   repeat_done =
       let on = grows_push code3 new (I.Loop first least greatest greedy next) pushed in
       let more4 : Extends code3 new = λ j x e made. on j x e in (
@@ -172,6 +206,7 @@ module _ (old code1 code2 code3 new : List Instr) (t : Tree) (least : ℕ) (grea
           code_extends code3 new more4 t first last (code_extends code2 code3 more3 t first last body),
           on last (I.Again first least greatest greedy next) (rw filled (get_set_same code2 last I.Hole (I.Again first least greatest greedy next) hole_is)),
         ),
+        adds4,
       )
 
 pub any_more : (code : List Instr) (ps : List Pattern) (p : Pattern) (targets : List ℕ) (q next : ℕ) → AnyCode code (trees (map tree_of ps)) targets next → Code code (tree_of p) q next →
@@ -201,3 +236,25 @@ row_step before after parts (suc j) p pc q next low high is grows row here =
     let inside : j < length parts = omega arith in
     let here_is : p ≡ get_or parts j p = rw e at is in
     rw (e, drop-cons parts j p inside, ← here_is) (pc, here, row_extends before after on (trees (map tree_of (drop (suc j) parts))) pc next row)
+
+sizes_more : (ps : List Pattern) (p : Pattern) → code_sizes (trees (map tree_of (ps ++ p ∷ []))) ≡ code_sizes (trees (map tree_of ps)) + code_size (tree_of p)
+sizes_more [] p = omega arith
+sizes_more (q ∷ ps) p = let rest = sizes_more ps p in omega arith
+
+-- the sizes of the first i parts, and then of one more
+pub any_adds : (old before after : List Instr) (parts : List Pattern) (i : ℕ) (p : Pattern) → i < length parts → p ≡ get_or parts i p →
+    Adds old before (code_sizes (trees (map tree_of (take i parts)))) → Adds before after (code_size (tree_of p)) → Adds old after (code_sizes (trees (map tree_of (take (i + 1) parts))))
+any_adds old before after parts i p inside is some one =
+    let same : take (i + 1) parts ≡ take i parts ++ p ∷ [] = take_more parts i p inside ∙ ap (λ (x : Pattern). take i parts ++ x ∷ []) (sym is) in
+    let more : code_sizes (trees (map tree_of (take i parts ++ p ∷ []))) ≡ code_sizes (trees (map tree_of (take i parts))) + code_size (tree_of p) = sizes_more (take i parts) p in
+    rw same (omega arith)
+
+-- the sizes of the last parts from n on, and then of the one before
+pub row_adds : (old before after : List Instr) (parts : List Pattern) (n : ℕ) (p : Pattern) → 0 < n → n ≤ length parts → p ≡ get_or parts (n - 1) p →
+    Adds old before (code_sizes (trees (map tree_of (drop n parts)))) → Adds before after (code_size (tree_of p)) → Adds old after (code_sizes (trees (map tree_of (drop (n - 1) parts))))
+row_adds old before after parts zero p low high is some one = absurd (omega arith)
+row_adds old before after parts (suc j) p low high is some one =
+    let e : suc j - 1 ≡ j = omega arith in
+    let inside : j < length parts = omega arith in
+    let here_is : p ≡ get_or parts j p = rw e at is in
+    rw (e, drop-cons parts j p inside, ← here_is) (omega arith)

@@ -1,5 +1,5 @@
 -- The code of a tree.
-use Rattle.std.specs.Prelude.{◌≡◌, ℕ, Bool, true, false, List, [], ◌∷◌, Some, slice_get, option_map}
+use Rattle.std.specs.Prelude.{◌≡◌, ℕ, ◌+◌, length, Bool, true, false, List, [], ◌∷◌, Some, slice_get, option_map}
 use Rattle.tm_onig_class.specs.Tree.{Tree, Empty, Char, Any, InSet, Cat, Alt, Group, Atomic, Repeat, Look, Back, Holds, Trees, NoTrees, More}
 use Rattle.tm_onig_class.specs.Widths.{least_width}
 use Rattle.tm_onig_search.specs.Widths.{greatest_width}
@@ -7,6 +7,7 @@ use Rattle.tm_onig_search.specs.Find.{last_group}
 use Rattle.tm_onig_vm.specs.declared.code.Instr.{Instr}
 use Rattle.tm_onig_vm.specs.declared.code.Instr.TheVariants as I
 use Rattle.tm_onig_vm.specs.Near.{near}
+use Rattle.tm_onig_vm.specs.Size.{code_size}
 
 module _ (code : List Instr) where
   abbrev mutual
@@ -60,11 +61,16 @@ module _ (code : List Instr) where
 abbrev pub Grows : List Instr → List Instr → Type 0
 Grows old new = (i : ℕ) (x : Instr) → slice_get old i ≡ Some x → slice_get new i ≡ Some x
 
+-- the new code has n instructions more
+abbrev pub Adds : List Instr → List Instr → ℕ → Type 0
+Adds old new n = length new ≡ length old + n
+
 -- the code of the whole tree begins at first, and ends with success
 abbrev pub IsCodeOf : List Instr → ℕ → Tree → Type 0
 IsCodeOf code first t = (last : ℕ) × Code code t first last × (slice_get code last ≡ Some I.Accept)
 
--- the code is the tree's, and groups is the highest number of a group
+-- the code is the tree's and no longer than that, and groups is the highest number of a group
 pub record IsProgramOf (code : List Instr) (first groups : ℕ) (t : Tree) : Type 0 where
   pub code_is : IsCodeOf code first t
+  pub size_is : length code ≡ code_size t + 1
   pub groups_is : groups ≡ last_group t

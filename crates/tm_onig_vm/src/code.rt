@@ -11,9 +11,10 @@
 //! 3 Close 1, then 2   8 Loop 7, then 1
 //! 4 Char a, then 3    9 Step, then 8, where the search begins
 //! ```
-ghost use Rattle.std.specs.Prelude.{◌≡◌, ℕ, [], ◌∷◌, ◌++◌, length, map, IfOk, slice_set};
+ghost use Rattle.std.specs.Prelude.{◌≡◌, ℕ, ◌+◌, [], ◌∷◌, ◌++◌, length, map, IfOk, slice_set};
 ghost use Rattle.tm_onig_class.specs.Tree.{tree_of, trees};
-ghost use Rattle.tm_onig_vm.specs.Code.{Code, AheadCode, BehindCode, RowCode, AnyCode, Grows, IsCodeOf};
+ghost use Rattle.tm_onig_vm.specs.Code.{Code, AheadCode, BehindCode, RowCode, AnyCode, Grows, Adds, IsCodeOf};
+ghost use Rattle.tm_onig_vm.specs.Size.{code_size, code_sizes};
 
 use crate::copies::copy_set;
 use crate::widths;
@@ -133,7 +134,7 @@ fn emit(
     pattern: &Pattern,
     next: u32,
 ) -> Result<u32, OutOfMemory>
-    ensures { IfOk result (λ pc. Grows code.old.items code.new.items × Code code.new.items (tree_of pattern.now) pc next) }
+    ensures { IfOk result (λ pc. Grows code.old.items code.new.items × Code code.new.items (tree_of pattern.now) pc next × Adds code.old.items code.new.items (code_size (tree_of pattern.now))) }
 {
     match pattern {
         Pattern::Empty => push(code, Instr::Step { next }),
@@ -259,7 +260,8 @@ fn emit_ahead(
     stays: bool,
     next: u32,
 ) -> Result<u32, OutOfMemory>
-    ensures { IfOk result (λ pc. Grows code.old.items code.new.items × AheadCode code.new.items (tree_of body.now) negative stays pc next) }
+    ensures { IfOk result (λ pc. Grows code.old.items code.new.items × AheadCode code.new.items (tree_of body.now) negative stays pc next
+        × Adds code.old.items code.new.items (code_size (tree_of body.now) + 2)) }
 {
     let last = push(code, Instr::Accept)?;
     let first = emit(alloc, code, body, last)?;
@@ -283,7 +285,8 @@ fn emit_behind(
     negative: bool,
     next: u32,
 ) -> Result<u32, OutOfMemory>
-    ensures { IfOk result (λ pc. Grows code.old.items code.new.items × BehindCode code.new.items (tree_of body.now) negative pc next) }
+    ensures { IfOk result (λ pc. Grows code.old.items code.new.items × BehindCode code.new.items (tree_of body.now) negative pc next
+        × Adds code.old.items code.new.items (code_size (tree_of body.now) + 3)) }
 {
     let end = push(code, Instr::Accept)?;
     let last = push(code, Instr::Arrive { next: end })?;
@@ -307,7 +310,8 @@ fn emit_row(
     parts: &[Pattern],
     next: u32,
 ) -> Result<u32, OutOfMemory>
-    ensures { IfOk result (λ pc. Grows code.old.items code.new.items × RowCode code.new.items (trees (map tree_of parts.now)) pc next) }
+    ensures { IfOk result (λ pc. Grows code.old.items code.new.items × RowCode code.new.items (trees (map tree_of parts.now)) pc next
+        × Adds code.old.items code.new.items (code_sizes (trees (map tree_of parts.now)))) }
 {
     let mut pc = next;
     for i in (0..parts.len()).rev() {
@@ -323,7 +327,8 @@ fn emit_any(
     parts: &[Pattern],
     next: u32,
 ) -> Result<Vec<u32>, OutOfMemory>
-    ensures { IfOk result (λ targets. Grows code.old.items code.new.items × AnyCode code.new.items (trees (map tree_of parts.now)) targets.items next) }
+    ensures { IfOk result (λ targets. Grows code.old.items code.new.items × AnyCode code.new.items (trees (map tree_of parts.now)) targets.items next
+        × Adds code.old.items code.new.items (code_sizes (trees (map tree_of parts.now)))) }
 {
     let mut targets = Vec::new(alloc);
     for i in 0..parts.len() {
@@ -334,7 +339,8 @@ fn emit_any(
 
 /// The code of a pattern, and the place where it begins.
 pub(crate) fn code_of(alloc: Global, pattern: &Pattern) -> Result<(Vec<Instr>, u32), OutOfMemory>
-    ensures { IfOk result (λ made. IsCodeOf made.0.items made.1 (tree_of pattern.now)) }
+    ensures code { IfOk result (λ made. IsCodeOf made.0.items made.1 (tree_of pattern.now)) }
+    ensures size { IfOk result (λ made. length made.0.items ≡ code_size (tree_of pattern.now) + 1) }
 {
     let mut code = Vec::new(alloc);
     let last = push(&mut code, Instr::Accept)?;

@@ -16,6 +16,14 @@ mod plain;
 pub mod program;
 mod running;
 #[cfg(test)]
+mod table_alone;
+#[cfg(test)]
+mod table_loops;
+#[cfg(test)]
+mod table_places;
+#[cfg(test)]
+mod table_plain;
+#[cfg(test)]
 mod tests;
 mod trail;
 mod widths;

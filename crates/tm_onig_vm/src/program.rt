@@ -6,6 +6,7 @@ ghost use Rattle.std.specs.Prelude.{◌≡◌, ℕ, ◌+◌, ◌^◌, ◌<◌, �
 ghost use Rattle.tm_onig_class.specs.Tree.{tree_of};
 ghost use Rattle.tm_onig_search.specs.Find.{at_start, blank, first_match, search_cost};
 ghost use Rattle.tm_onig_vm.specs.Anchors.{subject_of};
+ghost use Rattle.tm_onig_vm.specs.Size.{code_size};
 ghost use Rattle.tm_onig_vm.specs.Threads.{groups_under, hit_at};
 
 use crate::code::{Instr, code_of};
@@ -62,6 +63,14 @@ pub fn compile(alloc: Global, pattern: &Pattern) -> Result<Prog, OutOfMemory>
         first,
         groups,
     })
+}
+
+/// How many instructions the program has: one to three for each node of the pattern's tree, and one more,
+/// whatever the counts of its loops.
+pub fn instructions(prog: &Prog) -> usize
+    ensures { result ≡ code_size (tree_of prog.now) + 1 }
+{
+    prog.code.len()
 }
 
 /// Where the first success of the program at one start ends, and its groups are set then. `trail` is the

@@ -1,44 +1,48 @@
-use Rattle.std.proofs.Common.{◌≡◌, ◌∷◌, [], ◌++◌, length, map, refl, ap, ◌∙◌, arith}
+use Rattle.std.proofs.Common.{◌≡◌, ◌∷◌, [], ◌++◌, ◌+◌, length, map, refl, ap, ◌∙◌, arith}
 use Rattle.std.proofs.lemmas.Result.{IfOk-weaker}
 use Rattle.tm_onig_class.specs.Tree.{Empty, Char, Any, InSet, Back, Holds, tree_of, trees}
 use Rattle.tm_onig_class.proofs.Trees.{tree_of-Empty, tree_of-Char, tree_of-Cat, tree_of-Any, tree_of-Set, tree_of-Atomic, tree_of-Look, tree_of-Back, tree_of-Position, tree_of-Alt, tree_of-Group, tree_of-Repeat}
 use Rattle.tm_onig_vm.specs.declared.code.Instr.TheVariants as I
-use Rattle.tm_onig_vm.specs.Code.{Code, Grows}
-use Rattle.tm_onig_vm.proofs.Emitted.{grows_refl, grows_trans, any_step, row_step, leaf_done, cat_done, alt_done, group_done, repeat_done, ahead_done, behind_done, at_push, grows_push}
+use Rattle.tm_onig_vm.specs.Code.{Code, Grows, Adds}
+use Rattle.tm_onig_vm.specs.Size.{code_size}
+use Rattle.tm_onig_vm.proofs.Emitted.{grows_refl, grows_trans, any_step, any_adds, row_step, row_adds, adds_push, leaf_done, cat_done, alt_done, group_done, repeat_done, ahead_done, behind_done, at_push, grows_push}
 use Rattle.tm_onig_vm.proofs.code.+emit.Goals as goal
 
 pub emit-returns-in-Empty : goal.emit-returns-in-Empty
 emit-returns-in-Empty t c =
     IfOk-weaker c.push.result
     (λ pc. (c.push.new.code.items ≡ c.args.code.now.items ++ I.Step c.args.next ∷ []) × (pc ≡ length c.args.code.now.items))
-    (λ pc. Grows c.args.code.now.items c.push.new.code.items × Code c.push.new.code.items (tree_of c.args.pattern.now) pc c.args.next)
+    (λ pc. Grows c.args.code.now.items c.push.new.code.items × Code c.push.new.code.items (tree_of c.args.pattern.now) pc c.args.next
+    × Adds c.args.code.now.items c.push.new.code.items (code_size (tree_of c.args.pattern.now)))
     (λ pc made. rw (c.in-Empty.is, tree_of-Empty)
-    (leaf_done c.args.code.now.items c.args.code.now.items c.push.new.code.items (I.Step c.args.next) pc c.args.next (grows_refl c.args.code.now.items) made.0 made.1 Empty (λ e. e)))
+    (leaf_done c.args.code.now.items c.args.code.now.items c.push.new.code.items (I.Step c.args.next) pc c.args.next (grows_refl c.args.code.now.items) made.0 made.1 Empty (λ e. e) (omega arith) refl))
     c.push.ensures
 
 pub emit-returns-in-Char : goal.emit-returns-in-Char
 emit-returns-in-Char t c =
     IfOk-weaker c.push-in-Char.result _ _
     (λ pc made. rw (c.in-Char.is, tree_of-Char c.in-Char.c c.in-Char.fold)
-    (leaf_done c.args.code.now.items c.args.code.now.items c.push-in-Char.new.code.items (I.Char c.in-Char.c c.in-Char.fold c.args.next) pc c.args.next (grows_refl c.args.code.now.items) made.0 made.1 (Char c.in-Char.c c.in-Char.fold) (λ e. e)))
+    (leaf_done c.args.code.now.items c.args.code.now.items c.push-in-Char.new.code.items (I.Char c.in-Char.c c.in-Char.fold c.args.next) pc c.args.next (grows_refl c.args.code.now.items) made.0 made.1 (Char c.in-Char.c c.in-Char.fold) (λ e. e) (omega arith) refl))
     c.push-in-Char.ensures
 
 pub emit-returns-in_ok-first-in-Cat : goal.emit-returns-in_ok-first-in-Cat
 emit-returns-in_ok-first-in-Cat t c =
     let row = rw c.as_slice.ensures at c.in_ok-first-in-Cat.ensures.1 in
+    let adds = rw c.as_slice.ensures at c.in_ok-first-in-Cat.ensures.2 in
     IfOk-weaker c.push-in-Cat.result _ _
     (λ pc made. rw (c.in-Cat.is, tree_of-Cat c.in-Cat.parts)
     (cat_done c.args.code.now.items c.emit_row.new.code.items c.push-in-Cat.new.code.items (I.Step c.in_ok-first-in-Cat.first) pc c.args.next c.in_ok-first-in-Cat.ensures.0 made.0 made.1
-    (trees (map tree_of c.in-Cat.parts)) c.in_ok-first-in-Cat.first refl row))
+    (trees (map tree_of c.in-Cat.parts)) c.in_ok-first-in-Cat.first refl row adds))
     c.push-in-Cat.ensures
 
 pub emit-returns-in_ok-targets-in-Alt : goal.emit-returns-in_ok-targets-in-Alt
 emit-returns-in_ok-targets-in-Alt t c =
     let any = rw c.as_slice-in-Alt.ensures at c.in_ok-targets-in-Alt.ensures.1 in
+    let adds = rw c.as_slice-in-Alt.ensures at c.in_ok-targets-in-Alt.ensures.2 in
     IfOk-weaker c.push-in-Alt.result _ _
     (λ pc made. rw (c.in-Alt.is, tree_of-Alt c.in-Alt.parts)
     (alt_done c.args.code.now.items c.emit_any.new.code.items c.push-in-Alt.new.code.items (I.Choice c.from_vec.result) pc c.args.next c.in_ok-targets-in-Alt.ensures.0 made.0 made.1
-    (trees (map tree_of c.in-Alt.parts)) c.in_ok-targets-in-Alt.targets.items (ap I.Choice c.from_vec.ensures) any))
+    (trees (map tree_of c.in-Alt.parts)) c.in_ok-targets-in-Alt.targets.items (ap I.Choice c.from_vec.ensures) any adds))
     c.push-in-Alt.ensures
 
 pub emit-returns-in_ok-first-in-Group : goal.emit-returns-in_ok-first-in-Group
@@ -47,21 +51,25 @@ emit-returns-in_ok-first-in-Group t c =
     let first = grows_push c.args.code.now.items c.push-in-Group.new.code.items (I.Close c.in-Group.number c.args.next) c.in_ok-last-in-Group.ensures.0 in
     let grows = c.in_ok-first-in-Group.ensures.0 in
     let body = rw c.deref.ensures at c.in_ok-first-in-Group.ensures.1 in
+    let size = rw c.deref.ensures at c.in_ok-first-in-Group.ensures.2 in
+    let one = adds_push c.args.code.now.items c.push-in-Group.new.code.items (I.Close c.in-Group.number c.args.next) c.in_ok-last-in-Group.ensures.0 in
+    let adds : Adds c.args.code.now.items c.emit.new.code.items (code_size (tree_of c.in-Group.body.value) + 1) = omega arith in
     IfOk-weaker c.push-in-Group-2.result _ _
     (λ pc made. rw (c.in-Group.is, tree_of-Group c.in-Group.number c.in-Group.body)
     (group_done c.args.code.now.items c.emit.new.code.items c.push-in-Group-2.new.code.items (I.Open c.in_ok-first-in-Group.first) pc c.args.next
     (grows_trans c.args.code.now.items c.push-in-Group.new.code.items c.emit.new.code.items first grows) made.0 made.1
-    c.in-Group.number (tree_of c.in-Group.body.value) c.in_ok-first-in-Group.first c.in_ok-last-in-Group.last refl body (grows c.in_ok-last-in-Group.last (I.Close c.in-Group.number c.args.next) close)))
+    c.in-Group.number (tree_of c.in-Group.body.value) c.in_ok-first-in-Group.first c.in_ok-last-in-Group.last refl body (grows c.in_ok-last-in-Group.last (I.Close c.in-Group.number c.args.next) close) adds))
     c.push-in-Group-2.ensures
 
 pub emit-returns-in_ok-first-in-Repeat : goal.emit-returns-in_ok-first-in-Repeat
 emit-returns-in_ok-first-in-Repeat t c =
     let body = rw c.deref-in-Repeat.ensures at c.in_ok-first-in-Repeat.ensures.1 in
+    let adds = rw c.deref-in-Repeat.ensures at c.in_ok-first-in-Repeat.ensures.2 in
     IfOk-weaker c.push-in-Repeat-2.result _ _
     (λ pc made. rw (c.in-Repeat.is, tree_of-Repeat c.in-Repeat.body c.in-Repeat.least c.in-Repeat.greatest c.in-Repeat.greedy)
     (repeat_done c.args.code.now.items c.push-in-Repeat.new.code.items c.emit-in-Repeat.new.code.items c.patch.new.code.items c.push-in-Repeat-2.new.code.items
     (tree_of c.in-Repeat.body.value) c.in-Repeat.least c.in-Repeat.greatest c.in-Repeat.greedy c.in_ok-first-in-Repeat.first c.in_ok-last-in-Repeat.last pc c.args.next
-    c.in_ok-last-in-Repeat.ensures.0 c.in_ok-last-in-Repeat.ensures.1 c.in_ok-first-in-Repeat.ensures.0 body c.patch.ensures made.0 made.1))
+    c.in_ok-last-in-Repeat.ensures.0 c.in_ok-last-in-Repeat.ensures.1 c.in_ok-first-in-Repeat.ensures.0 body adds c.patch.ensures made.0 made.1))
     c.push-in-Repeat-2.ensures
 
 pub emit_any-loop-i-preserved : goal.emit_any-loop-i-preserved
@@ -70,6 +78,8 @@ emit_any-loop-i-preserved t c =
       more = grows_trans c.args.code.now.items c.loop-i.code.items c.emit.new.code.items c.loop-i.invariant.more c.in_ok-emit.ensures.0;
       here = any_step c.loop-i.code.items c.emit.new.code.items c.args.parts.now c.loop-i.i c.index-parts-i.result c.loop-i.targets.items c.push.new.self.items c.in_ok-emit.field-0 c.args.next (omega arith)
           c.index-parts-i.is c.in_ok-emit.ensures.0 c.loop-i.invariant.here c.in_ok-emit.ensures.1 c.in_ok-push.ensures.items;
+      size = any_adds c.args.code.now.items c.loop-i.code.items c.emit.new.code.items c.args.parts.now c.loop-i.i c.index-parts-i.result (omega arith)
+          c.index-parts-i.is c.loop-i.invariant.size c.in_ok-emit.ensures.2;
     }
 
 pub emit_row-loop-i-preserved : goal.emit_row-loop-i-preserved
@@ -78,6 +88,8 @@ emit_row-loop-i-preserved t c =
       more = grows_trans c.args.code.now.items c.loop-i.code.items c.emit.new.code.items c.loop-i.invariant.more c.in_ok-pc.ensures.0;
       here = row_step c.loop-i.code.items c.emit.new.code.items c.args.parts.now c.loop-i.i c.index-parts-i.result c.loop-i.pc c.in_ok-pc.pc c.args.next (omega arith) (omega arith)
           c.index-parts-i.is c.in_ok-pc.ensures.0 c.loop-i.invariant.here c.in_ok-pc.ensures.1;
+      size = row_adds c.args.code.now.items c.loop-i.code.items c.emit.new.code.items c.args.parts.now c.loop-i.i c.index-parts-i.result (omega arith) (omega arith)
+          c.index-parts-i.is c.loop-i.invariant.size c.in_ok-pc.ensures.2;
     }
 
 pub emit-returns-in-Any : goal.emit-returns-in-Any
@@ -85,7 +97,7 @@ emit-returns-in-Any t c =
     IfOk-weaker c.push-in-Any.result _ _
     (λ pc made. rw (c.in-Any.is, tree_of-Any c.in-Any.newline)
     (leaf_done c.args.code.now.items c.args.code.now.items c.push-in-Any.new.code.items (I.Any c.in-Any.newline c.args.next) pc c.args.next (grows_refl c.args.code.now.items) made.0 made.1
-    (Any c.in-Any.newline) (λ e. e)))
+    (Any c.in-Any.newline) (λ e. e) (omega arith) refl))
     c.push-in-Any.ensures
 
 pub emit-returns-in_ok-own-in-Set : goal.emit-returns-in_ok-own-in-Set
@@ -93,7 +105,7 @@ emit-returns-in_ok-own-in-Set t c =
     IfOk-weaker c.push-in-Set.result _ _
     (λ pc made. rw (c.in-Set.is, tree_of-Set c.in-Set.set c.in-Set.fold, ← c.in_ok-own-in-Set.ensures)
     (leaf_done c.args.code.now.items c.args.code.now.items c.push-in-Set.new.code.items (I.Member c.in_ok-own-in-Set.own c.in-Set.fold c.args.next) pc c.args.next
-    (grows_refl c.args.code.now.items) made.0 made.1 (InSet c.in_ok-own-in-Set.own c.in-Set.fold) (λ e. e)))
+    (grows_refl c.args.code.now.items) made.0 made.1 (InSet c.in_ok-own-in-Set.own c.in-Set.fold) (λ e. e) (omega arith) refl))
     c.push-in-Set.ensures
 
 pub emit-returns-in_ok-own-in-Back : goal.emit-returns-in_ok-own-in-Back
@@ -102,7 +114,7 @@ emit-returns-in_ok-own-in-Back t c =
     IfOk-weaker c.push-in-Back.result _ _
     (λ pc made. rw (c.in-Back.is, tree_of-Back c.in-Back.groups c.in-Back.fold, ← same)
     (leaf_done c.args.code.now.items c.args.code.now.items c.push-in-Back.new.code.items (I.Read c.from_vec-in-Back.result c.in-Back.fold c.args.next) pc c.args.next
-    (grows_refl c.args.code.now.items) made.0 made.1 (Back c.from_vec-in-Back.result c.in-Back.fold) (λ e. e)))
+    (grows_refl c.args.code.now.items) made.0 made.1 (Back c.from_vec-in-Back.result c.in-Back.fold) (λ e. e) (omega arith) refl))
     c.push-in-Back.ensures
 
 pub emit-returns-in-Position : goal.emit-returns-in-Position
@@ -110,7 +122,7 @@ emit-returns-in-Position t c =
     IfOk-weaker c.push-in-Position.result _ _
     (λ pc made. rw (c.in-Position.is, tree_of-Position c.in-Position.place)
     (leaf_done c.args.code.now.items c.args.code.now.items c.push-in-Position.new.code.items (I.Place c.in-Position.place c.args.next) pc c.args.next
-    (grows_refl c.args.code.now.items) made.0 made.1 (Holds c.in-Position.place) (λ e. e)))
+    (grows_refl c.args.code.now.items) made.0 made.1 (Holds c.in-Position.place) (λ e. e) (omega arith) refl))
     c.push-in-Position.ensures
 
 pub emit-returns-in-Atomic : goal.emit-returns-in-Atomic
@@ -131,12 +143,15 @@ pub emit_ahead-returns : goal.emit_ahead-returns
 emit_ahead-returns t c =
     let accept = at_push c.args.code.now.items c.push.new.code.items I.Accept c.in_ok-last.last c.in_ok-last.ensures.0 c.in_ok-last.ensures.1 in
     let first = grows_push c.args.code.now.items c.push.new.code.items I.Accept c.in_ok-last.ensures.0 in
+    let one = adds_push c.args.code.now.items c.push.new.code.items I.Accept c.in_ok-last.ensures.0 in
+    let size = c.in_ok-first.ensures.2 in
+    let adds : Adds c.args.code.now.items c.emit.new.code.items (code_size (tree_of c.args.body.now) + 1) = omega arith in
     let grows = c.in_ok-first.ensures.0 in
     IfOk-weaker c.push-2.result _ _
     (λ pc made.
     ahead_done c.args.code.now.items c.emit.new.code.items c.push-2.new.code.items (I.Ahead c.in_ok-first.first c.args.negative c.args.stays c.args.next) pc c.args.next
     (grows_trans c.args.code.now.items c.push.new.code.items c.emit.new.code.items first grows) made.0 made.1
-    (tree_of c.args.body.now) c.args.negative c.args.stays c.in_ok-first.first c.in_ok-last.last refl c.in_ok-first.ensures.1 (grows c.in_ok-last.last I.Accept accept))
+    (tree_of c.args.body.now) c.args.negative c.args.stays c.in_ok-first.first c.in_ok-last.last refl c.in_ok-first.ensures.1 (grows c.in_ok-last.last I.Accept accept) adds)
     c.push-2.ensures
 
 pub emit_behind-returns : goal.emit_behind-returns
@@ -148,11 +163,15 @@ emit_behind-returns t c =
     let first = grows_push c.args.code.now.items c.push.new.code.items I.Accept c.in_ok-end.ensures.0 in
     let second = grows_push c.push.new.code.items c.push-2.new.code.items (I.Arrive end) c.in_ok-last.ensures.0 in
     let third = c.in_ok-first.ensures.0 in
+    let one = adds_push c.args.code.now.items c.push.new.code.items I.Accept c.in_ok-end.ensures.0 in
+    let two = adds_push c.push.new.code.items c.push-2.new.code.items (I.Arrive end) c.in_ok-last.ensures.0 in
+    let size = c.in_ok-first.ensures.2 in
+    let adds : Adds c.args.code.now.items c.emit.new.code.items (code_size (tree_of c.args.body.now) + 2) = omega arith in
     let grows =
     grows_trans c.args.code.now.items c.push-2.new.code.items c.emit.new.code.items (grows_trans c.args.code.now.items c.push.new.code.items c.push-2.new.code.items first second) third in
     IfOk-weaker c.push-3.result _ _
     (λ pc made.
     behind_done c.args.code.now.items c.emit.new.code.items c.push-3.new.code.items (I.Behind c.in_ok-first.first c.args.negative c.least.result c.greatest.result c.args.next) pc c.args.next
     grows made.0 made.1 (tree_of c.args.body.now) c.args.negative c.least.result c.greatest.result c.in_ok-first.first last end refl c.least.ensures c.greatest.ensures
-    c.in_ok-first.ensures.1 (third last (I.Arrive end) arrive) (third end I.Accept (second end I.Accept accept)))
+    c.in_ok-first.ensures.1 (third last (I.Arrive end) arrive) (third end I.Accept (second end I.Accept accept)) adds)
     c.push-3.ensures
