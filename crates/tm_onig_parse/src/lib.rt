@@ -73,4 +73,6 @@ pub fn reading_is_by_the_grammar()
 {}
 
 #[cfg(test)]
+mod table;
+#[cfg(test)]
 mod tests;

@@ -1,0 +1,424 @@
+//! Patterns with their trees, worked out by hand from the documented syntax, and texts that are none.
+
+// Each text with its tree behind ` => `, or with nothing there where it is no pattern.
+pub(crate) const TABLE: &str = r"
+# characters and signs
+a => 'a
+ab => row 2 'a 'b
+. => any
+\. => '.
+\n => line-feed
+\t => tab
+\\ => '\
+\v => code-11
+\f => code-12
+\r => code-13
+\a => code-7
+\e => code-27
+\i\j\l\m\o\q => row 6 'i 'j 'l 'm 'o 'q
+\E\F\I\J\L\Q => row 6 'E 'F 'I 'J 'L 'Q
+\T\U\V => row 3 'T 'U 'V
+\é => 'é
+\- => '-
+a] => row 2 'a ']
+a} => row 2 'a '}
+^a$ => row 3 LineStart 'a LineEnd
+\ba\B => row 3 Word 'a NotWord
+a\Z => row 2 'a BeforeFinal
+a\z => row 2 'a TextEnd
+# sets
+\d => set[09]
+\D => set[abzA-]^&_.# é]
+\w => set[abzA09_é]
+\W => set[-]^&.# ]
+\s => set[ ]
+\S => set[abzA-]^&09_.#é]
+\h => set[abA09]
+\H => set[z-]^&_.# é]
+# classes
+[ab] => set[ab]
+[^ab] => set[zA-]^&09_.# é]
+[a-z] => set[abz]
+[]a] => set[a]]
+[^]a] => set[bzA-^&09_.# é]
+[a-] => set[a-]
+[-a] => set[a-]
+[--a] => set[aA-]^09_.]
+[\d-z] => set[z-09]
+[a-\d] => set[a-09]
+[a-b-z] => set[abz-]
+[a\]] => set[a]]
+[\-a] => set[a-]
+[\w&] => set[abzA&09_é]
+[\&&] => set[&]
+[a^] => set[a^]
+[&] => set[&]
+[.] => set[.]
+[\t ] => set[ ]
+[\W\s] => set[-]^&.# ]
+[\a\v\f\r\e0] => set[0]
+[\b] => set[]
+[\A\B\Z\z] => set[zA]
+[\G\k9] => set[9]
+[a-\z] => set[abz]
+# groups and alternatives
+a|b => either 2 'a 'b
+a|b|c => either 3 'a 'b 'c
+(a) => group 1 'a
+(?:a) => 'a
+(a)(b) => row 2 group 1 'a group 2 'b
+((a)b) => group 1 row 2 group 2 'a 'b
+(?:(a)|b)c => row 2 either 2 group 1 'a 'b 'c
+()a => row 2 group 1 empty 'a
+a(?:b|) => row 2 'a either 2 'b empty
+a(?:) => row 2 'a empty
+(ab|c) => group 1 either 2 row 2 'a 'b 'c
+# atomic groups and looks
+(?>a) => atomic 'a
+(?>a|b)c => row 2 atomic either 2 'a 'b 'c
+(?>(a)(?>b)) => atomic row 2 group 1 'a atomic 'b
+(?=a)a => row 2 ahead 'a 'a
+(?!a)b => row 2 not-ahead 'a 'b
+(?<=a)b => row 2 behind 'a 'b
+(?<!a)b => row 2 not-behind 'a 'b
+(?<=(a)|b)(c) => row 2 behind either 2 group 1 'a 'b group 2 'c
+a(?!) => row 2 'a not-ahead empty
+(?=a)*b => row 2 times 0.. ahead 'a 'b
+(?<!(?=a)b)c => row 2 not-behind row 2 ahead 'a 'b 'c
+# quantifiers
+a+ => times 1.. 'a
+a+? => lazily 1.. 'a
+ab* => row 2 'a times 0.. 'b
+ab*? => row 2 'a lazily 0.. 'b
+ab? => row 2 'a times 0..1 'b
+ab?? => row 2 'a lazily 0..1 'b
+(?:ab)+ => times 1.. row 2 'a 'b
+ab** => row 2 'a times 0.. times 0.. 'b
+ab??? => row 2 'a times 0..1 lazily 0..1 'b
+^*a => row 2 times 0.. LineStart 'a
+[ab]+ => times 1.. set[ab]
+# bounds
+a{2} => times 2..2 'a
+a{2,} => times 2.. 'a
+ba{,2} => row 2 'b times 0..2 'a
+a{2,3} => times 2..3 'a
+a{02} => times 2..2 'a
+a{100000} => times 100000..100000 'a
+a{1,100000} => times 1..100000 'a
+a|b{12} => either 2 'a times 12..12 'b
+^{2}a => row 2 times 2..2 LineStart 'a
+(?=a){2}b => row 2 times 2..2 ahead 'a 'b
+ba{2}? => row 2 'b times 0..1 times 2..2 'a
+a{2,2}? => lazily 2..2 'a
+a{2,3}? => lazily 2..3 'a
+a{2,}? => lazily 2.. 'a
+ba{,3}? => row 2 'b lazily 0..3 'a
+a{2}+ => times 1.. times 2..2 'a
+a{2,3}+ => times 1.. times 2..3 'a
+a{2}++ => times 1.. times 1.. times 2..2 'a
+ba{2}?? => row 2 'b times 0..1 times 0..1 times 2..2 'a
+a{2}{3} => times 3..3 times 2..2 'a
+a{2,3}?+ => times 1.. lazily 2..3 'a
+ba{2}*? => row 2 'b lazily 0.. times 2..2 'a
+# possessive marks
+a++ => atomic times 1.. 'a
+ba*+ => row 2 'b atomic times 0.. 'a
+ba?+ => row 2 'b atomic times 0..1 'a
+a+++ => times 1.. atomic times 1.. 'a
+a++++ => atomic times 1.. atomic times 1.. 'a
+a+?+ => times 1.. lazily 1.. 'a
+ba++? => row 2 'b times 0..1 atomic times 1.. 'a
+# comments
+a(?#c)b => row 2 'a 'b
+(?#c)a => 'a
+((?#c)a) => group 1 'a
+a|(?#c)b => either 2 'a 'b
+a(?#()b => row 2 'a 'b
+a(?#\)b => row 2 'a 'b
+ba(?#c)* => row 2 'b times 0.. 'a
+a(?#)(?#b)+ => times 1.. 'a
+ba+(?#c)? => row 2 'b times 0..1 times 1.. 'a
+a(?#c){2} => times 2..2 'a
+a{(?#c)2} => row 4 'a '{ '2 '}
+# options
+(?i)a => ~a
+(?i)ab => row 2 ~a ~b
+a(?i)b => row 2 'a ~b
+a(?i)b|c => row 2 'a either 2 ~b ~c
+a|(?i)b|c => either 2 'a either 2 ~b ~c
+(a(?i)b)c => row 2 group 1 row 2 'a ~b 'c
+(?i:a)b => row 2 ~a 'b
+(?:(?i)a)b => row 2 ~a 'b
+(?i)a(?-i)b => row 2 ~a 'b
+(?i)(a)(?m)(?:b.) => row 2 group 1 ~a row 2 ~b any-at-all
+(?i-i)a => 'a
+(?i)(?-i:a)b => row 2 'a ~b
+(?m). => any-at-all
+(?m:.). => row 2 any-at-all any
+(?-m). => any
+(?mi-x)a. => row 2 ~a any-at-all
+(?)a => 'a
+(?-)a => 'a
+(?-:a) => 'a
+(?i)\w => ~set[abzA09_é]
+(?i)\d+ => times 1.. ~set[09]
+a(?i) => row 2 'a empty
+(?=(?i)a)b => row 2 ahead ~a 'b
+# white space and remarks that are skipped
+(?x)a b => row 2 'a 'b
+(?x) a  => 'a
+(?x)a #c => 'a
+(?x)a#c⏎b => row 2 'a 'b
+(?x)a#c(⏎b#) => row 2 'a 'b
+(?x)a#c => 'a
+(?x)a\ b => row 3 'a '  'b
+(?x)a\#b => row 3 'a '# 'b
+(?x)[ a#] => set[a# ]
+(?x)a + => times 1.. 'a
+(?x)ba + ? => row 2 'b times 0..1 times 1.. 'a
+(?x)a #c⏎+ => times 1.. 'a
+(?x)ba +? => row 2 'b lazily 1.. 'a
+(?x:a b)c d => row 4 row 2 'a 'b 'c '  'd
+(?x)a(?-x) b => row 2 'a row 2 '  'b
+(?x)(?#c) a => 'a
+(?x)a{ 1} => row 4 'a '{ '1 '}
+(?x)a　b => row 2 'a 'b
+(?x)( a | b ) => group 1 either 2 'a 'b
+a b => row 3 'a '  'b
+a#b => row 3 'a '# 'b
+# names
+(?<n>a) => group 1 'a
+(?'n'a) => group 1 'a
+(?<n1_>a)(b) => row 2 group 1 'a group 2 'b
+(?<_>a) => group 1 'a
+(?<N>(a)b)(?<o>c) => row 2 group 1 row 2 group 2 'a 'b group 3 'c
+(?<n>a)(?<n>b) => row 2 group 1 'a group 2 'b
+(?<n>a)+ => times 1.. group 1 'a
+(?i)(?<n>a) => group 1 ~a
+# references
+(a)\1 => row 2 group 1 'a back-1
+\1(a) => row 2 back-1 group 1 'a
+(a\1) => group 1 row 2 'a back-1
+(a)\1b => row 3 group 1 'a back-1 'b
+(a)(b)\2\1 => row 4 group 1 'a group 2 'b back-2 back-1
+(a)(?:b)\1* => row 3 group 1 'a 'b times 0.. back-1
+(?i)(a)\1 => row 2 group 1 ~a ~back-1
+(?<n>a)(b)\2 => row 3 group 1 'a group 2 'b back-2
+(((((((((((a)))))))))))\11 => row 2 group 1 group 2 group 3 group 4 group 5 group 6 group 7 group 8 group 9 group 10 group 11 'a back-11
+(?<n>a)\k<n> => row 2 group 1 'a back-1
+(?'n'a)\k'n' => row 2 group 1 'a back-1
+\k<n>(?<n>a) => row 2 back-1 group 1 'a
+(?<n>a)(?<m>b)(?<n>c)\k<n> => row 4 group 1 'a group 2 'b group 3 'c back-1-3
+(a)\k<1> => row 2 group 1 'a back-1
+(a)\k<01> => row 2 group 1 'a back-1
+# braces that begin no bounds
+a{ => row 2 'a '{
+a{x} => row 4 'a '{ 'x '}
+a{,} => row 4 'a '{ ', '}
+a{2 => row 3 'a '{ '2
+a{2,3 => row 5 'a '{ '2 ', '3
+a{-1} => row 5 'a '{ '- '1 '}
+{ 1} => row 4 '{ '  '1 '}
+# no match advances by less than one character
+ =>
+a* =>
+a? =>
+^ =>
+\b =>
+a| =>
+a|b* =>
+() =>
+(?=a) =>
+(?<!a)+ =>
+(?>a*) =>
+(?>) =>
+(a*)+ =>
+a{0} =>
+a{,2} =>
+a{2}? =>
+# characters by number
+\x41 => 'A
+\x4 => code-4
+\x4g => row 2 code-4 'g
+\x414 => row 2 'A '4
+\x{41} => 'A
+\x{000041} => 'A
+\x{a}a => row 2 line-feed 'a
+\u0041 => 'A
+\u00e9 => 'é
+\u00412 => row 2 'A '2
+\0 => code-0
+\07 => code-7
+\012 => line-feed
+\0101 => row 2 code-8 '1
+\08 => row 2 code-0 '8
+(?i)\x41 => ~A
+[\x41-\x43] => set[A]
+[\u0061\0] => set[a]
+# sets by name
+\p{L} => set[abzAé]
+\p{^L} => set[-]^&09_.# ]
+\P{L} => set[-]^&09_.# ]
+\P{^L} => set[abzAé]
+\p{Lu} => set[A]
+\p{lowercase_letter} => set[abzé]
+\p{LOWER} => set[abzé]
+\p{ l-U } => set[A]
+\p{Greek} => set[]
+\p{Latin} => set[abzAé]
+\p{any} => set[abzA-]^&09_.# é]
+\p{punct} => set[-]^&_.#]
+(?i)\p{Lu} => ~set[A]
+[\p{Lu}a] => set[aA]
+[\P{L}a] => set[a-]^&09_.# ]
+# classes in classes
+[a[bz]] => set[abz]
+[^a[b]] => set[zA-]^&09_.# é]
+[[^a]b] => set[bzA-]^&09_.# é]
+[[a]-z] => set[az-]
+[[[a]]] => set[a]
+[a&&b] => set[]
+[a-z&&b-z] => set[bz]
+[a-z&&[^b]] => set[az]
+[^a-z&&b] => set[azA-]^&09_.# é]
+[&&a] => set[]
+[a&&] => set[]
+[^a&&] => set[abzA-]^&09_.# é]
+[a-z&&[ab]&&b] => set[b]
+[!-&&&b&] => set[]
+[!-&b] => set[b&#]
+[\w&&\D] => set[abzA_é]
+[[:alpha:]] => set[abzAé]
+[[:^alpha:]_] => set[-]^&09_.# ]
+[[:digit:]-z] => set[z-09]
+[[:bar:]] => set[ab]
+[[:any:]] => set[a]
+[:a] => set[a]
+[[:Alpha:]] => set[aA]
+# classes without regard to case
+(?i)[a] => set[aA]
+(?i)[^a] => set[bz-]^&09_.# é]
+(?i)[a&&A] => set[aA]
+(?i)[[^a]] => set[bz-]^&09_.# é]
+(?i)[a-b\d] => set[abA09]
+(?i)[\p{Ll}&&A] => set[aA]
+# what comes later
+\Aa =>
+\Ga =>
+\z =>
+# characters by a number that is none, and names that no set has
+\x =>
+\xg =>
+\x{} =>
+\x{0000041} =>
+\x{g} =>
+\x{41 =>
+\x{110000} =>
+\x{D800} =>
+\u12 =>
+\u004 =>
+\uDFFF =>
+[\x] =>
+\p =>
+\pL =>
+\p{} =>
+\p{nosuch} =>
+\p{é} =>
+\p{L =>
+\P{nosuch} =>
+[\p{nosuch}] =>
+# letters that are refused
+\ga =>
+\Ka =>
+\Xa =>
+\Ra =>
+\ya =>
+\Ya =>
+\Na =>
+\Oa =>
+\ca =>
+\Ca =>
+\Ma =>
+[\g] =>
+[\ca] =>
+[\1] =>
+# classes that do not end or go downwards
+[a[b] =>
+[[b-a]] =>
+[\x43-\x41] =>
+[a&& =>
+[[:alpha:] =>
+# references to groups that are not there
+\1a =>
+\9a =>
+(a)\2 =>
+(a)\10 =>
+(a)\11 =>
+(?:a)\1 =>
+(a)\99999999999999999999 =>
+(a)\k<0> =>
+(a)\k<2> =>
+(a)\k<n> =>
+(?<n>a)\k<m> =>
+(?<n>a)\k<N> =>
+\ka =>
+\k<a>a =>
+(?<n>a)\k<n =>
+(?<n>a)\k<n' =>
+(a)\k<1 =>
+(a)\k<1n> =>
+(a)\k'1' =>
+(a)\k<> =>
+# names that are none, and letters that set nothing
+(?<1n>a) =>
+(?<>a) =>
+(?<n a) =>
+(?<n'a) =>
+(?'n>a) =>
+(?<n-m>a) =>
+(?<é>a) =>
+(?<n>a =>
+(?q)a =>
+(?i--m)a =>
+(?i-:a =>
+(?i =>
+(?i)*a =>
+a(?i)* =>
+a(?i)) =>
+(?I)a =>
+# never patterns
+(?#c) =>
+(?#c =>
+(?#c)*a =>
+a|(?#c)+ =>
+*a =>
+{2}a =>
+a|{2} =>
+({2}) =>
+a{3,2} =>
+a{100001} =>
+a{1,100001} =>
+a{,100001}b =>
+a{99999999999999999999} =>
++ =>
+a|*b =>
+(*a) =>
+(a =>
+a) =>
+(?a) =>
+(? =>
+(?= =>
+(?<= =>
+(?< =>
+(?<) =>
+(?=a =>
+(?>a =>
+(?=*a)a =>
+[a =>
+[] =>
+[^] =>
+[b-a] =>
+[a--] =>
+a\ =>
+[\ =>
+";
