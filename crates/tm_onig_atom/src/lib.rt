@@ -2,6 +2,7 @@
 #![tactic(auto)]
 
 pub mod atoms;
+mod class_sets;
 mod escapes;
 mod fault;
 mod fronts;
