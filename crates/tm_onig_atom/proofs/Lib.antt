@@ -5,3 +5,4 @@ pub mod PosixExact
 pub mod Front
 pub mod ClassExact
 pub mod SidesWalk
+pub mod ClassTurns

@@ -3,6 +3,7 @@
 
 pub mod atoms;
 mod class_sets;
+mod classes;
 mod escapes;
 mod fault;
 mod fronts;
