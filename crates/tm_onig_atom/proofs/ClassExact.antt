@@ -1,5 +1,5 @@
 -- A class is read exactly as it is spelled.
-use Rattle.std.proofs.Common.{◌≡◌, ℕ, zero, suc, ◌+◌, ◌<◌, ◌≤◌, Bool, true, false, not, ◌&&◌, cond, List, [], ◌∷◌, ◌++◌, length, max, Option, Some, None, option_map, refl, sym, ap, ◌∙◌, subst, inl, inr, ◌⊎◌, arith, length-append, append_assoc}
+use Rattle.std.proofs.Common.{◌≡◌, ℕ, zero, suc, ◌+◌, ◌<◌, ◌≤◌, Bool, true, false, not, ◌&&◌, cond, List, [], ◌∷◌, ◌++◌, length, max, Option, Some, None, option_map, refl, sym, ap, ap₂, ◌∙◌, subst, inl, inr, ◌⊎◌, arith, length-append, append_assoc}
 use Rattle.std.specs.Prelude.{◌==◌}
 use Rattle.std.proofs.lemmas.Bool.{cases_Bool, eqb-true, and_left, and_right, and_parts}
 use Rattle.regex_class.specs.Ranges.{Range as CharRange}
@@ -13,7 +13,7 @@ use Rattle.tm_onig_atom.specs.declared.parts.Front.TheVariants as F
 use Rattle.tm_onig_atom.specs.Escapes.{begins}
 use Rattle.tm_onig_atom.specs.Reading.{◌>>=◌, rest_of}
 use Rattle.tm_onig_atom.specs.Classes.{Single, Raw, Slash, single_text, IsSingle, NoPosix, Class, Of, Items, NoItems, Also, Item, One, Range, Escaped, Posix, Nested, And, item_text, items_text, inside, IsItem, AreItems, IsClass, class_height, items_height, item_height, class_members, part_of, parts_of, class_ranges, class_tree}
-use Rattle.tm_onig_atom.specs.ClassReading.{front_at, Body, Reader, inner_part, part_from, part_at, closes_at, parts_at, parts_on, highest, body_of, signed_at, body_at, class_at}
+use Rattle.tm_onig_atom.specs.ClassReading.{front_at, Body, Reader, inner_part, part_from, part_at, closes_at, parts_at, parts_on, part_height, highest, body_of, items_of, signed_at, body_at, class_at}
 use Rattle.tm_onig_atom.proofs.Texts.{chosen, bind_ok, map_ok, some_same}
 use Rattle.tm_onig_atom.proofs.Front.{raw_close, front_of, behind, front_again, ReadsItem, ReadsFront, front_found}
 
@@ -105,19 +105,19 @@ parts_read inner fold n first i is rest item one more =
       more,
     ) refl
 
--- the greater of none and another
-zero_max : (n : ℕ) → n ≡ max 0 n
-zero_max n = omega arith
+-- how deep an item's part is nested
+item_part_height : (fold : Bool) (i : Item) → part_height (part_of fold i) ≡ item_height i
+item_part_height fold (One s) = refl
+item_part_height fold (Range a b) = refl
+item_part_height fold (Escaped e named) = refl
+item_part_height fold (Posix caret name listed) = refl
+item_part_height fold (Nested k) = refl
+item_part_height fold And = refl
 
 -- how deep the parts of items are nested
 parts_height : (fold : Bool) (is : Items) → highest (parts_of fold is) ≡ items_height is
 parts_height fold NoItems = refl
-parts_height fold (Also (One s) is) = parts_height fold is ∙ zero_max (items_height is)
-parts_height fold (Also (Range a b) is) = parts_height fold is ∙ zero_max (items_height is)
-parts_height fold (Also (Escaped e named) is) = parts_height fold is ∙ zero_max (items_height is)
-parts_height fold (Also (Posix caret name listed) is) = parts_height fold is ∙ zero_max (items_height is)
-parts_height fold (Also (Nested k) is) = ap (max (class_height k)) (parts_height fold is)
-parts_height fold (Also And is) = parts_height fold is ∙ zero_max (items_height is)
+parts_height fold (Also i is) = ap₂ max (item_part_height fold i) (parts_height fold is)
 
 -- what is read of a class
 abbrev pub BodyRead : Type 0
@@ -222,7 +222,7 @@ part_made fold inner found first t F.Opens r reads p rest e =
     b.2
 
 -- a part that is read is written
-part_found : (fold : Bool) (inner : Reader) → AreFound fold inner → (first : Bool) (t : List ℕ) (p : Part) (rest : List ℕ) → part_at inner first t ≡ Some (p, rest) → ReadsItem fold first t p rest
+pub part_found : (fold : Bool) (inner : Reader) → AreFound fold inner → (first : Bool) (t : List ℕ) (p : Part) (rest : List ℕ) → part_at inner first t ≡ Some (p, rest) → ReadsItem fold first t p rest
 part_found fold inner found first t p rest e =
     let b = bind_ok (front_at first t) (part_from inner) (p, rest) e in
     part_made fold inner found first t b.0.0 b.0.1 (front_found fold first t b.0.0 b.0.1 b.1) p rest b.2
@@ -324,17 +324,9 @@ body_found (suc depth) fold (c ∷ t) x rest e = elim (cases_Bool (c == 94)) [
 abbrev AreLow : ℕ → Reader → Type 0
 AreLow depth inner = (t : List ℕ) (x : Body) (rest : List ℕ) → inner t ≡ Some (x, rest) → x.1 ≤ depth
 
--- how deep the part is nested
-abbrev part_height : Part → ℕ
-part_height (Adds m) = 0
-part_height Meets = 0
-part_height (Inner ranges height) = height
-
 -- the part and those behind it
 highest_more : (p : Part) (ps : List Part) (d : ℕ) → part_height p ≤ d → highest ps ≤ d → highest (p ∷ ps) ≤ d
-highest_more (Adds m) ps d a b = b
-highest_more Meets ps d a b = b
-highest_more (Inner ranges height) ps d a b = omega (arith, a, b)
+highest_more p ps d a b = omega (arith, a, b)
 
 -- a part's height
 part_low : (depth : ℕ) (inner : Reader) → AreLow depth inner → (f : Front) (r : List ℕ) (p : Part) (rest : List ℕ) → part_from inner (f, r) ≡ Some (p, rest) → part_height p ≤ depth
@@ -373,10 +365,7 @@ signed_low depth inner low fold negated t x rest e =
 pub body_low : (depth : ℕ) (fold : Bool) → AreLow depth (body_at depth fold)
 unfolding body_at
 body_low zero fold t x rest e = absurd cc
-body_low (suc depth) fold t x rest e = elim (chosen (begins 94 t) _ _ _ e) [
-  | inl h ↦ signed_low depth (body_at depth fold) (body_low depth fold) fold true (rest_of t) x rest h.1
-  | inr h ↦ signed_low depth (body_at depth fold) (body_low depth fold) fold false t x rest h.1
-]
+body_low (suc depth) fold t x rest e = signed_low depth (body_at depth fold) (body_low depth fold) fold (begins 94 t) (items_of t) x rest e
 
 -- A class that is written is read.
 pub class_again : (k : Class) (depth : ℕ) (o : Options) (rest : List ℕ) → IsClass k rest → class_height k ≤ depth →

@@ -4,3 +4,5 @@ pub mod EscapeExact
 pub mod PosixExact
 pub mod Front
 pub mod ClassExact
+pub mod SidesWalk
+pub mod ClassTurns

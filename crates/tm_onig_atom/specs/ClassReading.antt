@@ -126,12 +126,16 @@ parts_on inner first t = parts_at inner (length t) first t
 abbrev pub with_front : List Part → Option (List Part × List ℕ) → Option (List Part × List ℕ)
 with_front front read = read >>= λ x. Some (front ++ x.0, x.1)
 
+-- how deep a part is nested
+abbrev pub part_height : Part → ℕ
+part_height (Adds m) = 0
+part_height Meets = 0
+part_height (Inner ranges height) = height
+
 -- how deep the parts are nested
 abbrev pub highest : List Part → ℕ
 highest [] = 0
-highest (Inner ranges height ∷ ps) = max height (highest ps)
-highest (Adds m ∷ ps) = highest ps
-highest (Meets ∷ ps) = highest ps
+highest (p ∷ ps) = max (part_height p) (highest ps)
 
 -- the class with these parts
 abbrev pub body_of : Bool → Bool → List Part × List ℕ → Option (Body × List ℕ)
@@ -141,10 +145,14 @@ body_of fold negated x = Some ((class_members fold negated x.0, 1 + highest x.0)
 abbrev pub signed_at : Reader → Bool → Bool → List ℕ → Option (Body × List ℕ)
 signed_at inner fold negated t = parts_on inner true t >>= body_of fold negated
 
+-- the text behind the `^`, if there is one
+abbrev pub items_of : List ℕ → List ℕ
+items_of t = if begins 94 t then rest_of t else t
+
 -- a class behind its `[`
 unfoldable pub body_at : ℕ → Bool → List ℕ → Option (Body × List ℕ)
 body_at zero fold t = None
-body_at (suc depth) fold t = if begins 94 t then signed_at (body_at depth fold) fold true (rest_of t) else signed_at (body_at depth fold) fold false t
+body_at (suc depth) fold t = signed_at (body_at depth fold) fold (begins 94 t) (items_of t)
 
 -- the same as a tree
 abbrev pub class_at : ℕ → Options → List ℕ → Option ((Tree × ℕ) × List ℕ)

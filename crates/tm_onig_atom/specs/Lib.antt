@@ -4,4 +4,5 @@ pub mod Widening
 pub mod Reading
 pub mod Classes
 pub mod ClassReading
+pub mod Sides
 pub mod Views

@@ -2,6 +2,8 @@
 #![tactic(auto)]
 
 pub mod atoms;
+mod class_sets;
+mod classes;
 mod escapes;
 mod fault;
 mod fronts;
