@@ -4,7 +4,6 @@ ghost use Rattle.tm_onig_class.specs.Tree.{tree_of};
 ghost use Rattle.tm_onig_class.specs.Widths.{least_width};
 ghost use Rattle.tm_onig_atom.specs.declared.meanings.Meant.TheVariants.{Members};
 ghost use Rattle.tm_onig_atom.specs.Escapes.{meant_tree};
-ghost use Rattle.tm_onig_atom.specs.ClassReading.{class_at};
 ghost use Rattle.tm_onig_atom.specs.Reading.{escape_at};
 ghost use Rattle.tm_onig_atom.specs.Views.{Gives};
 
@@ -67,17 +66,4 @@ pub fn escape<'a>(
         },
         Err(fault) => Err(fault),
     }
-}
-
-/// interim
-pub fn class<'a>(
-    _alloc: Global,
-    _sets: &mut Sets,
-    options: Options,
-    depth: u32,
-    text: &'a [char],
-) -> Result<((Pattern, u32), &'a [char]), AtomFault>
-    ensures read { Gives (λ x. ((tree_of x.0.0, x.0.1), x.1.now)) result (class_at depth options text.now) }
-{
-    Err(AtomFault::OutOfMemory)
 }

@@ -12,7 +12,7 @@ mod numbers;
 pub mod options;
 mod parts;
 mod posix;
-pub mod slices;
+mod slices;
 pub mod store;
 
 pub use fault::AtomFault;
