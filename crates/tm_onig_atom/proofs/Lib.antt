@@ -6,3 +6,4 @@ pub mod Front
 pub mod ClassExact
 pub mod SidesWalk
 pub mod ClassTurns
+pub mod Answering

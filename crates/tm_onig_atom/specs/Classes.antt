@@ -205,3 +205,8 @@ abbrev mutual
 -- What a class means.
 abbrev pub class_tree : Options → Class → Tree
 class_tree o k = InSet (class_ranges o.fold k) false
+
+-- The text behind a `[` begins with the class, and this follows.
+pub record BeginsClass (text : List ℕ) (k : Class) (rest : List ℕ) : Type 0 where
+  pub whole : text ≡ inside k ++ rest
+  pub is : IsClass k rest

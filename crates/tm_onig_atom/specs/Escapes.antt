@@ -146,3 +146,8 @@ meant_tree o (Members named) = InSet (ranges_of (named_has named)) o.fold
 -- What an escape means outside classes.
 abbrev pub escape_tree : Options → Escape → Tree
 escape_tree o e = meant_tree o (meant e)
+
+-- The text begins with the escape, and this follows.
+pub record BeginsEscape (text : List ℕ) (e : Escape) (rest : List ℕ) : Type 0 where
+  pub whole : text ≡ escape_text e ++ rest
+  pub is : IsEscape e rest

@@ -1,26 +1,23 @@
 //! Classes: their text from the `[` to the `]` that ends them, with the classes nested in them.
 ghost use Rattle.std.specs.Prelude.{◌≡◌, true};
-ghost use Rattle.tm_onig_class.specs.Tree.{tree_of};
 ghost use Rattle.tm_onig_atom.specs.Escapes.{begins};
-ghost use Rattle.tm_onig_atom.specs.ClassReading.{items_of, part_at, parts_on, closes_at, part_height, highest, body_at, class_at};
+ghost use Rattle.tm_onig_atom.specs.ClassReading.{items_of, part_at, parts_on, closes_at, part_height, highest, body_at};
 ghost use Rattle.tm_onig_atom.specs.Views.{Gives};
 
 use crate::class_sets::class_set;
 use crate::fault::AtomFault;
 use crate::fronts::front;
-use crate::options::Options;
 use crate::parts::{Front, Part};
 use crate::slices::tail;
 use crate::store::Sets;
 use std::alloc::Global;
-use tm_onig_class::patterns::Pattern;
 use tm_onig_class::sets::Set;
 
 /// A class, with how many are open at once in it, itself counted.
 #[derive(Drop)]
-struct Body {
-    set: Set,
-    height: u32,
+pub(crate) struct Body {
+    pub(crate) set: Set,
+    pub(crate) height: u32,
 }
 
 /// Whether the class ends here.
@@ -123,7 +120,7 @@ fn sign(text: &[char]) -> (bool, &[char])
 
 /// What follows a `[`, where `depth` classes may be open from here on.
 #[cycle(nested)]
-fn class_body<'a>(
+pub(crate) fn class_body<'a>(
     alloc: Global,
     sets: &mut Sets,
     fold: bool,

@@ -16,3 +16,6 @@ mod slices;
 pub mod store;
 
 pub use fault::AtomFault;
+
+#[cfg(test)]
+mod tests;
