@@ -12,7 +12,7 @@ mod numbers;
 pub mod options;
 mod parts;
 mod posix;
-mod slices;
+pub mod slices;
 pub mod store;
 
 pub use fault::AtomFault;

@@ -6,8 +6,8 @@ ghost use Rattle.tm_onig_parse.specs.Views.{Gives, sym_of_token};
 
 use crate::ParseFault;
 use crate::groups::Opener;
-use crate::names::name_to;
 use crate::letters::letter;
+use crate::names::name_to;
 use crate::tokens::Token;
 use std::alloc::Global;
 use tm_onig_atom::options::Options;

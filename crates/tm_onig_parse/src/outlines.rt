@@ -7,10 +7,10 @@ ghost use Rattle.std.specs.Prelude.{◌≡◌, map, None};
 ghost use Rattle.tm_onig_parse.specs.Reading.{Open, Close, outline_start, outline_step, names_onward};
 ghost use Rattle.tm_onig_parse.specs.Views.{Gives, Steps, name_of_chars, names_known, outline_of, sym_of_token};
 
+use crate::ParseFault;
 use crate::groups::Opener;
 use crate::names::GroupNames;
 use crate::tokens::{Token, next_token};
-use crate::ParseFault;
 use std::alloc::Global;
 use std::mem;
 use tm_onig_atom::options::{Options, none};

@@ -6,6 +6,7 @@ ghost use Rattle.tm_onig_parse.specs.Reading.{Close, step, change_last, more_tim
 ghost use Rattle.tm_onig_parse.specs.declared.groups.Opener.TheVariants.{Sets as BySetting};
 ghost use Rattle.tm_onig_parse.specs.Views.{Gives, Steps, built_of, level_of_frame, names_known, state_of_reader, sym_of_token};
 
+use crate::ParseFault;
 use crate::groups::{Frame, Opener, end_row, fresh, whole};
 use crate::names::GroupNames;
 use crate::outlines::group_names;
@@ -13,12 +14,11 @@ use crate::part::Part;
 use crate::parts::{group, push};
 use crate::quantifiers::{Manner, quantify};
 use crate::tokens::{Token, next_token};
-use crate::ParseFault;
 use std::alloc::Global;
 use std::mem;
-use tm_onig_class::patterns::Pattern;
 use tm_onig_atom::options::{Options, none};
 use tm_onig_atom::store::Sets;
+use tm_onig_class::patterns::Pattern;
 
 /// How many characters a pattern has at most.
 const LONGEST: usize = 65_536;
@@ -217,7 +217,12 @@ fn end(alloc: Global, mut reader: Reader) -> Result<Pattern, ParseFault>
 }
 
 /// The pattern that the text spells, however long it is, where it has these groups.
-fn read_all(alloc: Global, sets: &mut Sets, groups: &GroupNames, text: &[char]) -> Result<Pattern, ParseFault>
+fn read_all(
+    alloc: Global,
+    sets: &mut Sets,
+    groups: &GroupNames,
+    text: &[char],
+) -> Result<Pattern, ParseFault>
     ensures { Gives tree_of result (onward (names_known groups.now) start text.now) }
 {
     let mut reader = Reader {

@@ -13,9 +13,9 @@ use crate::parts::leaf;
 use crate::tokens::Token;
 use sqlite_items::Items;
 use std::alloc::Global;
-use tm_onig_class::patterns::Pattern;
 use tm_onig_atom::options::Options;
 use tm_onig_atom::slices::tail;
+use tm_onig_class::patterns::Pattern;
 
 /// Whether the character begins a reference behind a backslash.
 pub fn begins_reference(c: char) -> bool

@@ -9,7 +9,6 @@ ghost use Rattle.tm_onig_parse.specs.Meaning.{leaf};
 ghost use Rattle.tm_onig_parse.specs.Reading.{token_at, times_at, lazily_exact, interval_at, braces_at, means_escape, place_or, escape_at, line_end, bounds_or, sign_or, means_class};
 ghost use Rattle.tm_onig_parse.specs.Views.{Gives, sym_of_token, built_of, names_known};
 
-use crate::{ParseFault, fault_of};
 use crate::groups::Opener;
 use crate::intervals::{bounds, interval};
 use crate::names::GroupNames;
@@ -18,6 +17,7 @@ use crate::part::{DEEPEST, Part};
 use crate::parts::{class_part, leaf};
 use crate::quantifiers::Manner;
 use crate::references::{begins_reference, reference};
+use crate::{ParseFault, fault_of};
 use std::alloc::Global;
 use tm_onig_atom::atoms::{class, escape};
 use tm_onig_atom::options::Options;
