@@ -16,7 +16,7 @@ pub(crate) fn before(end: char, text: &[char]) -> Option<(&[char], &[char])>
 }
 
 /// The text without its first character.
-pub(crate) fn tail(text: &[char]) -> &[char]
+pub fn tail(text: &[char]) -> &[char]
     ensures { result.now ≡ rest_of text.now }
 {
     match text {
