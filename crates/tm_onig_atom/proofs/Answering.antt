@@ -51,3 +51,8 @@ class_answered view r depth o t g k rest b low = subst (Gives view r) (ap (class
 pub class_wide : {X : Type 0} (view : X → ClassRead) (r : Result X AtomFault) (depth : ℕ) (o : Options) (t : List ℕ) → Gives view r (class_at depth o t) → IfOk r (λ x. least_width (view x).0.0 ≡ 1)
 class_wide view (Ok x) depth o t g = let f = class_found depth o t (view x).0.0 (view x).0.1 (view x).1 g in ap least_width f.means ∙ class_width o f.class
 class_wide view (Err fault) depth o t g = tt
+
+-- an answer is nested no deeper than is allowed
+pub class_low : {X : Type 0} (view : X → ClassRead) (r : Result X AtomFault) (depth : ℕ) (o : Options) (t : List ℕ) → Gives view r (class_at depth o t) → IfOk r (λ x. (view x).0.1 ≤ depth)
+class_low view (Ok x) depth o t g = let f = class_found depth o t (view x).0.0 (view x).0.1 (view x).1 g in subst (λ h. h ≤ depth) (sym f.high) f.low
+class_low view (Err fault) depth o t g = tt

@@ -152,6 +152,7 @@ max_parts a b d h = (omega (arith, h), omega (arith, h))
 -- Classes and items that are written are read.
 mutual
   unfolding parts_at
+
   pub body_again : (k : Class) (depth : ℕ) (fold : Bool) (rest : List ℕ) → IsClass k rest → class_height k ≤ depth →
       ◌≡◌ {A = BodyRead} (body_at depth fold (inside k ++ rest)) (Some ((class_ranges fold k, class_height k), rest))
   body_again (Of negated is) zero fold rest are low = absurd (omega (arith, low))

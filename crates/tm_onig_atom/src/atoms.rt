@@ -123,6 +123,8 @@ pub fn class<'a>(
     ensures found { IfOk result (λ x. (k : Class) × BeginsClass text.now k x.1.now × (tree_of x.0.0 ≡ class_tree options k) × (x.0.1 ≡ class_height k) × (class_height k ≤ depth)) }
     // A class that stands there, and is not nested deeper, is read, unless memory runs out.
     ensures only { (k : Class) (rest : List ℕ) → BeginsClass text.now k rest → class_height k ≤ depth → Gives {Y = (Tree × ℕ) × List ℕ} (λ x. ((tree_of x.0.0, x.0.1), x.1.now)) result (Some ((class_tree options k, class_height k), rest)) }
+    // It is nested no deeper.
+    ensures low { IfOk result (λ x. x.0.1 ≤ depth) }
     // Each match takes one character.
     ensures wide { IfOk result (λ x. least_width (tree_of x.0.0) ≡ 1) }
     // The same as a function of the text.

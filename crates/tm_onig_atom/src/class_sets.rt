@@ -113,12 +113,7 @@ fn add(
     }
 }
 
-fn members(
-    alloc: Global,
-    sets: &mut Sets,
-    fold: bool,
-    parts: &[Part],
-) -> Result<Set, OutOfMemory>
+fn members(alloc: Global, sets: &mut Sets, fold: bool, parts: &[Part]) -> Result<Set, OutOfMemory>
     ensures { IfOk result (λ s. (c : ℕ) → IsChar c → has_char s c ≡ (side_has fold parts.now c && later_have fold parts.now c)) }
 {
     let mut gathered = fresh(alloc, None)?;
@@ -139,9 +134,5 @@ pub(crate) fn class_set(
     ensures { IfOk result (λ s. (c : ℕ) → IsChar c → has_char s c ≡ class_has fold negated parts.now c) }
 {
     let set = members(alloc, sets, fold, parts)?;
-    if negated {
-        set.complement()
-    } else {
-        Ok(set)
-    }
+    if negated { set.complement() } else { Ok(set) }
 }

@@ -41,7 +41,9 @@ fn same_known(a: Known, b: Known) -> bool
 fn same(a: Key, b: Key) -> bool
     ensures { IsTrue result → a ≡ b }
 {
-    same_known(a.named.known, b.named.known) && a.named.negated == b.named.negated && a.fold == b.fold
+    same_known(a.named.known, b.named.known)
+        && a.named.negated == b.named.negated
+        && a.fold == b.fold
 }
 
 /// A set that was made. Contracts see its key.
@@ -102,11 +104,7 @@ fn named_set(alloc: Global, named: Named) -> Result<Set, OutOfMemory>
 pub fn widen(set: Set, fold: bool) -> Result<Set, OutOfMemory>
     ensures { (test : ℕ → Bool) → ((c : ℕ) → IsChar c → has_char set c ≡ test c) → IfOk result (λ s. (c : ℕ) → IsChar c → has_char s c ≡ widened fold test c) }
 {
-    if fold {
-        set.folded()
-    } else {
-        Ok(set)
-    }
+    if fold { set.folded() } else { Ok(set) }
 }
 
 fn made(alloc: Global, key: Key) -> Result<Set, OutOfMemory>
@@ -141,7 +139,12 @@ impl Sets {
     }
 
     /// The set of a name, or its complement, widened by folding or not. It is made once.
-    pub(crate) fn named(&mut self, alloc: Global, named: Named, fold: bool) -> Result<Set, OutOfMemory>
+    pub(crate) fn named(
+        &mut self,
+        alloc: Global,
+        named: Named,
+        fold: bool,
+    ) -> Result<Set, OutOfMemory>
         ensures { IfOk result (λ s. (c : ℕ) → IsChar c → has_char s c ≡ widened fold (named_has named) c) }
     {
         let key = Key { named, fold };

@@ -157,7 +157,13 @@ const SETS: [(&str, bool, &str, &str, usize); 104] = [
     (r"[\A\G\Z\z\B\k]", false, "AGZzBk", "b\u{8}", 0),
     (r"[\]\-\^]", false, "]-^", "a", 0),
     (r"[a\-c]", false, "a-c", "b", 0),
-    (r"[\t\n\v\f\r\a\e]", false, "\t\n\u{B}\u{C}\r\u{7}\u{1B}", "tnvfrae", 0),
+    (
+        r"[\t\n\v\f\r\a\e]",
+        false,
+        "\t\n\u{B}\u{C}\r\u{7}\u{1B}",
+        "tnvfrae",
+        0,
+    ),
     (r"[\x41-\x43]", false, "ABC", "D-x4", 0),
     (r"[\x{41}-C]", false, "ABC", "D-", 0),
     (r"[\u00e9]", false, "\u{E9}", "u0", 0),
@@ -342,7 +348,13 @@ fn heights(rt: HostRuntime) -> Result<(), Fail> {
             Ok(((_, height), _)) => assert!(rt; height == wanted, "{text}"),
             Err(_) => return Err(Fail::new("no class")),
         }
-        match class(rt.alloc(), &mut sets, none(), wanted.wrapping_sub(1), &chars) {
+        match class(
+            rt.alloc(),
+            &mut sets,
+            none(),
+            wanted.wrapping_sub(1),
+            &chars,
+        ) {
             Err(AtomFault::Unreadable) => {}
             _ => return Err(Fail::new("deeper than allowed")),
         }
