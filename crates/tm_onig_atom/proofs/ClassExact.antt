@@ -1,5 +1,5 @@
 -- A class is read exactly as it is spelled.
-use Rattle.std.proofs.Common.{◌≡◌, ℕ, zero, suc, ◌+◌, ◌<◌, ◌≤◌, Bool, true, false, not, ◌&&◌, cond, List, [], ◌∷◌, ◌++◌, length, max, Option, Some, None, option_map, refl, sym, ap, ap₂, ◌∙◌, subst, inl, inr, ◌⊎◌, arith, length-append, append_assoc}
+use Rattle.std.proofs.Common.{◌≡◌, ℕ, zero, suc, ◌+◌, ◌<◌, ◌≤◌, Bool, true, false, not, ◌&&◌, List, [], ◌∷◌, ◌++◌, length, max, Option, Some, option_map, refl, sym, ap, ap₂, ◌∙◌, subst, inl, inr, arith, length-append, append_assoc}
 use Rattle.std.specs.Prelude.{◌==◌}
 use Rattle.std.proofs.lemmas.Bool.{cases_Bool, eqb-true, and_left, and_right, and_parts}
 use Rattle.regex_class.specs.Ranges.{Range as CharRange}
@@ -11,7 +11,7 @@ use Rattle.tm_onig_atom.specs.declared.parts.Part.TheVariants.{Adds, Meets, Inne
 use Rattle.tm_onig_atom.specs.declared.parts.Front.{Front}
 use Rattle.tm_onig_atom.specs.declared.parts.Front.TheVariants as F
 use Rattle.tm_onig_atom.specs.Escapes.{begins}
-use Rattle.tm_onig_atom.specs.Reading.{◌>>=◌, rest_of}
+use Rattle.tm_onig_atom.specs.Reading.{◌>>=◌}
 use Rattle.tm_onig_atom.specs.Classes.{Single, Raw, Slash, single_text, IsSingle, NoPosix, Class, Of, Items, NoItems, Also, Item, One, Range, Escaped, Posix, Nested, And, item_text, items_text, inside, IsItem, AreItems, IsClass, class_height, items_height, item_height, class_members, part_of, parts_of, class_ranges, class_tree}
 use Rattle.tm_onig_atom.specs.ClassReading.{front_at, Body, Reader, inner_part, part_from, part_at, closes_at, parts_at, parts_on, part_height, highest, body_of, items_of, signed_at, body_at, class_at}
 use Rattle.tm_onig_atom.proofs.Texts.{chosen, bind_ok, map_ok, some_same}

@@ -1,3 +1,6 @@
+ghost use Rattle.std.specs.Prelude.{ℕ, ◌≤◌, List, IfOk, IsTrue, ◌↔◌};
+ghost use Rattle.tm_onig_atom.specs.Classes.{Class, BeginsClass, class_height};
+
 use crate::AtomFault;
 use crate::atoms::{class, escape};
 use crate::options::{Options, none};
@@ -5,6 +8,7 @@ use crate::store::Sets;
 use std::alloc::{AllocError, Global};
 use std::test::Fail;
 use tm_onig_class::patterns::Pattern;
+use tm_onig_class::sets::Set;
 
 fn characters(alloc: Global, text: &str) -> Result<Vec<char>, AllocError> {
     let mut chars = Vec::new(alloc);
@@ -78,26 +82,45 @@ const CHARACTERS: [(&str, char, usize); 39] = [
     (r"\_", '_', 0),
 ];
 
+fn is_character(pattern: &Pattern, wanted: char, case: bool) -> bool {
+    match pattern {
+        Pattern::Char { c, fold } => *c == wanted && *fold == case,
+        _ => false,
+    }
+}
+
+/// Whether the text is this character, with so many others behind it.
+fn reads_character(
+    alloc: Global,
+    sets: &mut Sets,
+    row: (&str, char, usize),
+    case: bool,
+) -> Result<bool, AllocError> {
+    let chars = characters(alloc, row.0)?;
+    match read(alloc, sets, case, &chars) {
+        Ok((pattern, left)) => Ok(is_character(&pattern, row.1, case) && left == row.2),
+        Err(_) => Ok(false),
+    }
+}
+
 #[test]
 fn escapes_of_characters(rt: HostRuntime) -> Result<(), Fail> {
     let mut sets = Sets::new(rt.alloc());
-    for (text, wanted, left) in CHARACTERS {
-        let chars = characters(rt.alloc(), text)?;
-        for case in [false, true] {
-            match read(rt.alloc(), &mut sets, case, &chars) {
-                Ok((Pattern::Char { c, fold }, rest)) => {
-                    assert!(rt; c == wanted && fold == case && rest == left, "{text}");
-                }
-                _ => return Err(Fail::new("no character")),
-            }
-        }
+    for row in CHARACTERS {
+        let text = row.0;
+        let plain = reads_character(rt.alloc(), &mut sets, row, false)?;
+        assert!(rt; plain, "{text}");
+        let folded = reads_character(rt.alloc(), &mut sets, row, true)?;
+        assert!(rt; folded, "{text}");
     }
     Ok(())
 }
 
-// Texts of sets and classes: whether they fold, characters that are members, characters that are
-// none, and how many characters follow.
-const SETS: [(&str, bool, &str, &str, usize); 104] = [
+/// Texts of sets and classes: whether case does not count, characters that are members, characters that
+/// are none, and how many characters follow.
+type Row = (&'static str, bool, &'static str, &'static str, usize);
+
+const NAMED: [Row; 23] = [
     // escapes of sets
     (r"\w", false, "a_5\u{E9}\u{301}\u{203F}", "- .$", 0),
     (r"\W", false, "- .$", "a_5\u{E9}", 0),
@@ -124,6 +147,9 @@ const SETS: [(&str, bool, &str, &str, usize); 104] = [
     (r"\p{any}", false, "a\n\u{10FFFF}", "", 0),
     // outside classes the node says that case does not count
     (r"\p{Lu}", true, "A", "a", 0),
+];
+
+const ITEMS: [Row; 24] = [
     // characters and ranges
     ("[abc]", false, "abc", "d[]", 0),
     ("[a-c]", false, "abc", "d-", 0),
@@ -152,6 +178,9 @@ const SETS: [(&str, bool, &str, &str, usize); 104] = [
     ("[[:digit:]-c]", false, "5-c", "b:", 0),
     ("[a-[:digit:]]", false, "a-5", "b:", 0),
     ("[a-&&a]", false, "a", "-&", 0),
+];
+
+const WITHIN: [Row; 28] = [
     // escapes
     (r"[\b]", false, "\u{8}", "b", 0),
     (r"[\A\G\Z\z\B\k]", false, "AGZzBk", "b\u{8}", 0),
@@ -188,6 +217,9 @@ const SETS: [(&str, bool, &str, &str, usize); 104] = [
     ("[[:^foo:]]", false, ":^fo", "a", 0),
     ("[[:alpha]]", false, ":alph", "z", 0),
     ("[:alpha:]", false, ":alph", "z", 0),
+];
+
+const TOGETHER: [Row; 29] = [
     // nested classes
     ("[a[bc]d]", false, "abcd", "e[]", 0),
     ("[[^a]b]", false, "bc", "a", 0),
@@ -222,24 +254,83 @@ const SETS: [(&str, bool, &str, &str, usize); 104] = [
     (r"[\wS-]", true, "\u{17F}s-", ".", 0),
 ];
 
-#[test]
-fn sets_and_classes(rt: HostRuntime) -> Result<(), Fail> {
-    let mut sets = Sets::new(rt.alloc());
-    for (text, case, members, others, left) in SETS {
-        let chars = characters(rt.alloc(), text)?;
-        match read(rt.alloc(), &mut sets, case, &chars) {
-            Ok((Pattern::Set { set, fold }, rest)) => {
-                assert!(rt; rest == left, "{text}");
-                assert!(rt; fold == (case && !text.starts_with('[')), "{text}");
-                for c in members.chars() {
-                    assert!(rt; set.has(c), "{text} has {c}");
-                }
-                for c in others.chars() {
-                    assert!(rt; !set.has(c), "{text} lacks {c}");
-                }
-            }
-            _ => return Err(Fail::new("no set")),
+fn has_all(set: &Set, members: &str) -> bool {
+    for c in members.chars() {
+        if !set.has(c) {
+            return false;
         }
+    }
+    true
+}
+
+fn has_none(set: &Set, others: &str) -> bool {
+    for c in others.chars() {
+        if set.has(c) {
+            return false;
+        }
+    }
+    true
+}
+
+fn is_set(pattern: &Pattern, case: bool, members: &str, others: &str) -> bool {
+    match pattern {
+        Pattern::Set { set, fold } => {
+            *fold == case && has_all(set, members) && has_none(set, others)
+        }
+        _ => false,
+    }
+}
+
+/// Whether the text is such a set, with so many characters behind it.
+fn reads_set(alloc: Global, sets: &mut Sets, row: Row) -> Result<bool, AllocError> {
+    let chars = characters(alloc, row.0)?;
+    let case = row.1 && !row.0.starts_with('[');
+    match read(alloc, sets, row.1, &chars) {
+        Ok((pattern, left)) => Ok(is_set(&pattern, case, row.2, row.3) && left == row.4),
+        Err(_) => Ok(false),
+    }
+}
+
+#[test]
+fn sets_by_name(rt: HostRuntime) -> Result<(), Fail> {
+    let mut sets = Sets::new(rt.alloc());
+    for row in NAMED {
+        let text = row.0;
+        let is = reads_set(rt.alloc(), &mut sets, row)?;
+        assert!(rt; is, "{text}");
+    }
+    Ok(())
+}
+
+#[test]
+fn items_of_classes(rt: HostRuntime) -> Result<(), Fail> {
+    let mut sets = Sets::new(rt.alloc());
+    for row in ITEMS {
+        let text = row.0;
+        let is = reads_set(rt.alloc(), &mut sets, row)?;
+        assert!(rt; is, "{text}");
+    }
+    Ok(())
+}
+
+#[test]
+fn escapes_and_names_in_classes(rt: HostRuntime) -> Result<(), Fail> {
+    let mut sets = Sets::new(rt.alloc());
+    for row in WITHIN {
+        let text = row.0;
+        let is = reads_set(rt.alloc(), &mut sets, row)?;
+        assert!(rt; is, "{text}");
+    }
+    Ok(())
+}
+
+#[test]
+fn classes_put_together(rt: HostRuntime) -> Result<(), Fail> {
+    let mut sets = Sets::new(rt.alloc());
+    for row in TOGETHER {
+        let text = row.0;
+        let is = reads_set(rt.alloc(), &mut sets, row)?;
+        assert!(rt; is, "{text}");
     }
     Ok(())
 }
@@ -316,15 +407,20 @@ const REFUSED: [&str; 69] = [
     "[a[b-a]]",
 ];
 
+fn is_refused(alloc: Global, sets: &mut Sets, text: &str) -> Result<bool, AllocError> {
+    let chars = characters(alloc, text)?;
+    match read(alloc, sets, false, &chars) {
+        Err(AtomFault::Unreadable) => Ok(true),
+        _ => Ok(false),
+    }
+}
+
 #[test]
 fn refusals(rt: HostRuntime) -> Result<(), Fail> {
     let mut sets = Sets::new(rt.alloc());
     for text in REFUSED {
-        let chars = characters(rt.alloc(), text)?;
-        match read(rt.alloc(), &mut sets, false, &chars) {
-            Err(AtomFault::Unreadable) => {}
-            _ => return Err(Fail::new("read")),
-        }
+        let is = is_refused(rt.alloc(), &mut sets, text)?;
+        assert!(rt; is, "{text}");
     }
     Ok(())
 }
@@ -339,25 +435,37 @@ const HEIGHTS: [(&str, u32); 6] = [
     ("[[a][[b]]]]", 4),
 ];
 
+/// How many classes are open at once in the text behind a `[`, where so many may be.
+fn height(alloc: Global, depth: u32, text: &[char]) -> Option<u32> {
+    match class(alloc, &mut Sets::new(alloc), none(), depth, text) {
+        Ok((found, _)) => Some(found.1),
+        Err(_) => None,
+    }
+}
+
+/// Whether the text behind a `[` is a class, nested no deeper than 200.
+fn is_class(alloc: Global, text: &[char]) -> Result<bool, AtomFault>
+    ensures { IfOk result (λ is. IsTrue is ↔ ((k : Class) × ((rest : List ℕ) × BeginsClass text.now k rest × (class_height k ≤ 200)))) }
+{
+    match class(alloc, &mut Sets::new(alloc), none(), 200, text) {
+        Ok(_) => Ok(true),
+        Err(AtomFault::Unreadable) => Ok(false),
+        Err(fault) => Err(fault),
+    }
+}
+
 #[test]
 fn heights(rt: HostRuntime) -> Result<(), Fail> {
-    let mut sets = Sets::new(rt.alloc());
     for (text, wanted) in HEIGHTS {
         let chars = characters(rt.alloc(), text)?;
-        match class(rt.alloc(), &mut sets, none(), wanted, &chars) {
-            Ok(((_, height), _)) => assert!(rt; height == wanted, "{text}"),
-            Err(_) => return Err(Fail::new("no class")),
-        }
-        match class(
-            rt.alloc(),
-            &mut sets,
-            none(),
-            wanted.wrapping_sub(1),
-            &chars,
-        ) {
-            Err(AtomFault::Unreadable) => {}
-            _ => return Err(Fail::new("deeper than allowed")),
-        }
+        assert!(rt;
+            height(rt.alloc(), wanted, &chars) == Some(wanted),
+            "{text}"
+        );
+        assert!(rt;
+            height(rt.alloc(), wanted.wrapping_sub(1), &chars) == None,
+            "{text}"
+        );
     }
     Ok(())
 }
@@ -377,20 +485,9 @@ fn nested(alloc: Global, times: usize) -> Result<Vec<char>, AllocError> {
 
 #[test]
 fn deep_classes(rt: HostRuntime) -> Result<(), Fail> {
-    let mut sets = Sets::new(rt.alloc());
-    let deep = nested(rt.alloc(), 200)?;
-    match class(rt.alloc(), &mut sets, none(), 200, &deep) {
-        Ok(((Pattern::Set { set, .. }, height), rest)) => {
-            assert!(rt; set.has('a') && !set.has('[') && height == 200 && rest.is_empty());
-        }
-        _ => return Err(Fail::new("no class")),
-    }
-    for times in [201, 60_000] {
-        let deeper = nested(rt.alloc(), times)?;
-        match class(rt.alloc(), &mut sets, none(), 200, &deeper) {
-            Err(AtomFault::Unreadable) => {}
-            _ => return Err(Fail::new("deeper than allowed")),
-        }
+    for (times, is) in [(1, true), (200, true), (201, false), (60_000, false)] {
+        let deep = nested(rt.alloc(), times)?;
+        assert!(rt; is_class(rt.alloc(), &deep) == Ok(is), "{times}");
     }
     Ok(())
 }
