@@ -10,7 +10,8 @@ use Rattle.tm_onig_atom.specs.Escapes.{begins}
 use Rattle.tm_onig_atom.specs.Reading.{◌>>=◌, rest_of}
 use Rattle.tm_onig_atom.specs.ClassReading.{Reader, front_at, part_at, closes_at, parts_at, parts_on, with_front, body_of, items_of, signed_at, highest, body_at}
 use Rattle.tm_onig_atom.specs.Views.{Fails}
-use Rattle.tm_onig_atom.proofs.ClassExact.{PartsRead, BodyRead, item_long, part_found, body_found, body_low, parts_low}
+use Rattle.tm_onig_atom.proofs.ClassItems.{PartsRead, BodyRead, item_long, part_found, body_found}
+use Rattle.tm_onig_atom.proofs.ClassExact.{body_low, parts_low}
 
 -- each class within takes a character, and so does each part
 abbrev AreShorter : Reader → Type 0
