@@ -1,0 +1,5 @@
+pub mod Tree
+pub mod Sizes
+pub mod Includes
+pub mod Rules
+pub mod Candidates

@@ -1,0 +1,8 @@
+//! The rules of grammars by number, what their includes name, and their candidates.
+#![tactic(auto)]
+
+pub mod candidate;
+pub mod grammars;
+mod loaded;
+pub mod rule;
+mod sizes;
