@@ -35,18 +35,18 @@ is_hash c = nat_eq c 35
 abbrev pub is_word : List ℕ → Bool
 is_word text = bytes_eq text (codes "$self") || bytes_eq text (codes "$base")
 
-module _ (loaded : List Loaded) (grammar : Loaded) (scopes : List Entries) where
+module _ (loaded : List Loaded) where
   -- `#name` is of the repositories around it, `scope#name` of that grammar's top repository; `$self` and `$base` are no scopes here
-  abbrev pub named_of : List ℕ → List ℕ → Option ℕ
-  named_of scope name = if nat_eq (length scope) 0 then innermost name scopes
+  abbrev pub named_of : List Entries → List ℕ → List ℕ → Option ℕ
+  named_of scopes scope name = if nat_eq (length scope) 0 then innermost name scopes
       else (if is_word scope then None else option_and_then (λ g. named name g.repository) (loaded_at scope loaded))
 
   -- with a `#` at this place it is a scope and a name, and else the scope of a grammar
-  abbrev pub by_hash : List ℕ → Option ℕ → Option ℕ
-  by_hash text None = option_map (λ g. g.root) (loaded_at text loaded)
-  by_hash text (Some place) = named_of (take place text) (drop (place + 1) text)
+  abbrev pub by_hash : List Entries → List ℕ → Option ℕ → Option ℕ
+  by_hash scopes text None = option_map (λ g. g.root) (loaded_at text loaded)
+  by_hash scopes text (Some place) = named_of scopes (take place text) (drop (place + 1) text)
 
   -- `$self` is the root rule of the grammar in which it is written, `$base` that of the first grammar
-  abbrev pub included_rule : List ℕ → Option ℕ
-  included_rule text = if bytes_eq text (codes "$self") then Some grammar.root
-      else (if bytes_eq text (codes "$base") then Some 0 else by_hash text (position is_hash text))
+  abbrev pub included_rule : Loaded → List Entries → List ℕ → Option ℕ
+  included_rule grammar scopes text = if bytes_eq text (codes "$self") then Some grammar.root
+      else (if bytes_eq text (codes "$base") then Some 0 else by_hash scopes text (position is_hash text))

@@ -101,7 +101,7 @@ module _ (loaded : List Loaded) (grammar : Loaded) where
     rules_in_captures scopes n NoCaptures = []
     rules_in_captures scopes n (Capture group t rest) =
       let own = if has_patterns t then 1 else 0 in
-      (if has_patterns t then rule_at scopes (n + 1) t ∷ [] else []) ++ (rules_inside scopes (n + own) t ++ rules_in_captures scopes (n + (own + inside_size t)) rest)
+      (if has_patterns t then rule_at scopes (n + own) t ∷ [] else []) ++ (rules_inside scopes (n + own) t ++ rules_in_captures scopes (n + (own + inside_size t)) rest)
 
     -- nothing inside an include has a number
     pub rules_in_items : List Entries → ℕ → Items → List Rule

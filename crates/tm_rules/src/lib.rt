@@ -3,6 +3,8 @@
 
 pub mod candidate;
 pub mod grammars;
+mod includes;
 mod loaded;
 pub mod rule;
+mod made;
 mod sizes;
