@@ -3,3 +3,5 @@ pub mod Sizes
 pub mod Includes
 pub mod Rules
 pub mod Candidates
+pub mod Walk
+pub mod Tasks

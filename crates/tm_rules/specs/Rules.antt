@@ -72,15 +72,19 @@ module _ (loaded : List Loaded) (grammar : Loaded) where
   abbrev pub lone_include : List Entries → Keys → List ℕ
   lone_include scopes k = if is_some (filled k.match_text) || is_some k.begin || k.has_patterns then [] else included scopes (filled k.include)
 
-  -- the rule itself; captures of begin, end and while fall back to `captures`
-  abbrev pub own_rule : List Entries → FirstNumbers → Tree → Rule
-  own_rule scopes f (Node k begins all ends listed named whiles) = rule_by grammar.scope k (record {
+  -- captures of begin, end and while fall back to `captures`
+  abbrev pub parts_of : List Entries → FirstNumbers → Tree → Parts
+  parts_of scopes f (Node k begins all ends listed named whiles) = record {
     captures = captures_from f.captures all;
     begin_captures = if k.has_begin_captures then captures_from f.begin_captures begins else captures_from f.captures all;
     end_captures = if k.has_end_captures then captures_from f.end_captures ends else captures_from f.captures all;
     while_captures = if k.has_while_captures then captures_from f.while_captures whiles else captures_from f.captures all;
     patterns = numbers_from scopes f.patterns listed ++ lone_include scopes k;
-  }) (filled k.match_text) k.begin (filled k.while_text)
+  }
+
+  -- the rule itself; an empty `match`, `end` or `while` counts as absent
+  abbrev pub own_rule : List Entries → FirstNumbers → Tree → Rule
+  own_rule scopes f t = rule_by grammar.scope (keys_of t) (parts_of scopes f t) (filled (keys_of t).match_text) (keys_of t).begin (filled (keys_of t).while_text)
 
   -- the rule whose parts are numbered from n on
   abbrev pub rule_at : List Entries → ℕ → Tree → Rule

@@ -3,8 +3,11 @@
 
 pub mod candidate;
 pub mod grammars;
+mod flow;
 mod includes;
 mod loaded;
 pub mod rule;
 mod made;
+mod parts;
 mod sizes;
+mod walk;
