@@ -1,2 +1,5 @@
 pub mod Opened
 pub mod Walked
+pub mod Unopened
+pub mod Flattened
+pub mod Tasked

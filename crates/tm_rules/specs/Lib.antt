@@ -5,3 +5,4 @@ pub mod Rules
 pub mod Candidates
 pub mod Walk
 pub mod Tasks
+pub mod Flows

@@ -1,7 +1,8 @@
 -- What is left of a flattening that goes by a list of tasks.
-use Rattle.std.specs.Prelude.{◌≡◌, ℕ, ◌<◌, ⊤, List, [], ◌∷◌, ◌++◌, length, reverse, Bool, false, slice_get, get_or}
+use Rattle.std.specs.Prelude.{◌≡◌, ℕ, ◌<◌, ⊤, List, [], ◌∷◌, ◌++◌, length, reverse, Bool, false, slice_get, get_or, Option, Some, None}
 use Rattle.tm_rules.specs.Candidates.{is_among, flattened}
 use Rattle.tm_rules.specs.declared.candidate.Candidate.{Candidate}
+use Rattle.tm_rules.specs.declared.candidate.Candidate.TheVariants.{Start}
 use Rattle.tm_rules.specs.declared.flow.Task.{Task}
 use Rattle.tm_rules.specs.declared.flow.Task.TheVariants.{Visit, Close}
 use Rattle.tm_rules.specs.declared.rule.Rule.{Rule}
@@ -21,6 +22,11 @@ tasks_left rules (Visit n ∷ tasks) = flattened rules (opened_by tasks) n ++ ta
 -- the next task is the last of its vector
 abbrev pub stacked : List Task → List Task
 stacked tasks = reverse tasks
+
+-- the start that was found, if there is one, and then the others
+abbrev pub found_first : Option ℕ → List Candidate → List Candidate
+found_first None others = others
+found_first (Some n) others = Start n ∷ others
 
 -- no number stands there twice
 abbrev pub AreApart : List ℕ → Type 0
