@@ -3,3 +3,6 @@ pub mod Walked
 pub mod Unopened
 pub mod Flattened
 pub mod Tasked
+pub mod Lengths
+pub mod Sums
+pub mod Pushes

@@ -1,7 +1,7 @@
 -- What is left, as tasks come and go.
 use Rattle.std.proofs.Common.{◌≡◌, ℕ, ◌<◌, ◌≢◌, ◌||◌, Bool, true, false, List, [], ◌∷◌, ◌++◌, map, reverse, length, slice_get, get_or, inl, inr, refl, ap, sym, ◌∙◌, append_assoc, flat_map, arith}
 use Rattle.std.specs.Prelude.{slice_set}
-use Rattle.std.proofs.lemmas.List.{reverse-append, get_or-set_same, get_or-set_other}
+use Rattle.std.proofs.lemmas.List.{append-nil, reverse-append, get_or-set_same, get_or-set_other}
 use Rattle.std.proofs.Math.ListN.{length-set}
 use Rattle.std.proofs.lemmas.Bool.Decides.{eqb_tells}
 use Rattle.tm_rules.specs.Candidates.{is_only, patterns_of, is_among, flattened}
@@ -27,6 +27,12 @@ module _ (rules : List Rule) where
     ap (λ (ns : List ℕ). flattened rules ns p ++ tasks_left rules (map Visit ps ++ ts)) (opened-visits ps ts)
     ∙ ap (λ (cs : List Candidate). flattened rules (opened_by ts) p ++ cs) (left-visits ps ts)
     ∙ sym (append_assoc (flattened rules (opened_by ts) p) (flat_map (flattened rules (opened_by ts)) ps) (tasks_left rules ts))
+
+  pub opened-begun : (ps : List ℕ) → opened_by (map Visit ps) ≡ []
+  opened-begun ps = ap opened_by (sym (append-nil (map Visit ps))) ∙ opened-visits ps []
+
+  pub left-begun : (ps : List ℕ) → tasks_left rules (map Visit ps) ≡ flat_map (flattened rules []) ps
+  left-begun ps = ap (tasks_left rules) (sym (append-nil (map Visit ps))) ∙ left-visits ps [] ∙ append-nil (flat_map (flattened rules []) ps)
 
   -- an open rule is passed
   pub left-open : (n : ℕ) (ts : List Task) → is_only (slice_get rules n) ≡ true → is_among n (opened_by ts) ≡ true → tasks_left rules ts ≡ flattened rules (opened_by ts) n ++ tasks_left rules ts

@@ -70,3 +70,7 @@ module _ (rules : List Rule) where
   -- the candidates of the rule with this number
   abbrev pub flattened_candidates : ℕ → List Candidate
   flattened_candidates n = own_candidates n (slice_get rules n)
+
+  -- Both in one: its start, which an include-only rule has not, and its own candidates.
+  abbrev pub listed : ℕ → List Candidate
+  listed n = start_unless (is_only (slice_get rules n)) n ++ flattened_candidates n

@@ -6,3 +6,4 @@ pub mod Candidates
 pub mod Walk
 pub mod Tasks
 pub mod Flows
+pub mod Lists

@@ -125,7 +125,7 @@ grammar_size g = 1 + names_size (names_of g.injections) + inside_size (tree_of g
 abbrev pub inside_root : ℕ → GrammarTree → ℕ
 inside_root n g = n + 1 + names_size (names_of g.injections)
 
--- a tree's own repository, numbered with what is inside it from n on
+-- the names of a tree's own repository, where what is inside it is numbered from n on
 abbrev pub own_entries : ℕ → Tree → Entries
 own_entries n (Node keys begins all ends listed named whiles) = entries (firsts n (Node keys begins all ends listed named whiles)).repository named
 
@@ -134,15 +134,21 @@ abbrev pub loaded_from : ℕ → List GrammarTree → List Loaded
 loaded_from n [] = []
 loaded_from n (g ∷ gs) = record { scope = g.scope_name; root = n; repository = own_entries (inside_root n g) (tree_of g.root) } ∷ loaded_from (n + grammar_size g) gs
 
+-- The names of the root rule's repository stand in its injections too.
 abbrev pub grammar_rules : List Loaded → Loaded → GrammarTree → List Rule
 grammar_rules loaded grammar g =
-  rule_at loaded grammar [] (inside_root grammar.root g) (tree_of g.root)
-    ∷ (rules_in_names loaded grammar (grammar.repository ∷ []) (grammar.root + 1) (names_of g.injections)
-    ++ rules_inside loaded grammar [] (inside_root grammar.root g) (tree_of g.root))
+  let n = inside_root grammar.root g in
+  let t = tree_of g.root in
+  rule_at loaded grammar [] n t ∷ (rules_in_names loaded grammar (inner [] n t) (grammar.root + 1) (names_of g.injections) ++ rules_inside loaded grammar [] n t)
 
 abbrev pub rules_from : List Loaded → List Loaded → List GrammarTree → List Rule
 rules_from loaded (l ∷ ls) (g ∷ gs) = grammar_rules loaded l g ++ rules_from loaded ls gs
 rules_from loaded ls gs = []
+
+-- how many rules grammars have
+abbrev pub grammars_size : List GrammarTree → ℕ
+grammars_size [] = 0
+grammars_size (g ∷ gs) = grammar_size g + grammars_size gs
 
 -- the root grammar first, then the further ones, then the injected ones
 abbrev pub grammars_of : Grammars → List GrammarTree

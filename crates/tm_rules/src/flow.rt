@@ -14,8 +14,8 @@
 //! visit 2, close 0                               gives it again
 //! close 0
 //! ```
-ghost use Rattle.std.specs.Prelude.{◌≡◌, [], ◌++◌, ◌∷◌, true, false, map, get_or, slice_get, slice_set, IfOk, OnOk, MatchOption, Some, None};
-ghost use Rattle.tm_rules.specs.Candidates.{is_only, patterns_of};
+ghost use Rattle.std.specs.Prelude.{◌≡◌, [], ◌++◌, ◌∷◌, true, false, map, get_or, slice_get, slice_set, IfOk, OnOk, MatchOption, Some, None, flat_map};
+ghost use Rattle.tm_rules.specs.Candidates.{is_only, patterns_of, flattened};
 ghost use Rattle.tm_rules.specs.Flows.{tasks_of, IsFlow};
 ghost use Rattle.tm_rules.specs.Tasks.{opened_by, tasks_left, stacked, found_first, AreMarked};
 ghost use Rattle.tm_rules.specs.declared.flow.Task.TheVariants.{Visit};
@@ -33,6 +33,7 @@ pub enum Task {
 }
 
 /// A flattening on its way.
+#[derive(Drop)]
 pub struct Flow<'a> {
     rules: &'a [Rule],
     /// For each rule, whether it is open.
@@ -154,12 +155,14 @@ impl<'a> Flow<'a> {
 
     /// Begins with these rules, the first one first.
     pub fn begin(&mut self, numbers: &[u32]) -> Result<(), OutOfMemory>
+        requires flow { IsFlow self.old.rules.now self.old }
         requires ended { tasks_of self.old ≡ [] }
         ensures rules { self.new.rules ≡ self.old.rules }
-        ensures marks { self.new.marks ≡ self.old.marks }
-        ensures tasks { OnOk result (tasks_of self.new ≡ map Visit numbers.now) }
+        ensures flow { OnOk result (IsFlow self.old.rules.now self.new) }
+        ensures left { OnOk result (tasks_left self.old.rules.now (tasks_of self.new) ≡ flat_map (flattened self.old.rules.now []) numbers.now) }
     {
-        push_visits(&mut self.tasks, numbers)
+        push_visits(&mut self.tasks, numbers)?;
+        Ok(())
     }
 
     /// The next rule whose start is contributed; none at the end.

@@ -3,24 +3,27 @@
 //! It goes down a raw rule, which nests no deeper than its file. At each rule it counts the rules in its
 //! parts, so that a name of its repository has its number before what is inside the rule is made. The
 //! time is that of the rules, times how deep they nest.
-ghost use Rattle.std.specs.Prelude.{◌≡◌, ◌+◌, ◌++◌, ◌∷◌, [], IfOk, OnOk, if◌then◌else◌};
+ghost use Rattle.std.specs.Prelude.{◌≡◌, ◌+◌, ◌++◌, ◌∷◌, [], map, IfOk, OnOk, if◌then◌else◌};
 ghost use Rattle.tm_rules.specs.Sizes.{has_patterns, inside_size};
-ghost use Rattle.tm_rules.specs.Rules.{own_rule, rule_at, rules_inside, rules_in_captures, rules_in_items, rules_in_names};
+ghost use Rattle.tm_rules.specs.Rules.{own_rule, rule_at, rules_inside, rules_in_captures, rules_in_items, rules_in_names, grammar_rules, rules_from};
 ghost use Rattle.tm_rules.specs.Walk.{rules_in_parts};
 ghost use Rattle.tm_grammar.specs.declared.raw.RawRule.TheViews.{out-RawRule};
 ghost use Rattle.tm_rules.specs.Tree.{tree_of, captures_of_if, items_of_if, names_of};
 
 use crate::includes::Home;
-use crate::loaded::{self, Repository};
+use crate::load;
+use crate::loaded::{self, Loaded, Repository};
 use crate::made;
 use crate::rule::Rule;
 use crate::sizes::{self, FirstNumbers};
 use std::alloc::Global;
 use tm_defs::memory::OutOfMemory;
 use tm_defs::texts::Name;
+use tm_grammar::grammar::RawGrammar;
 use tm_grammar::raw::{RawCaptures, RawList, RawRule};
 
 /// The rules so far, and the repositories around the place of the walk, the outermost first.
+#[derive(Drop)]
 pub struct Walk {
     pub scopes: Vec<Repository>,
     pub rules: Vec<Rule>,
@@ -216,4 +219,55 @@ fn walk_own(
     };
     walk_rule(alloc, home, walk, raw, inside, true)?;
     Ok(behind)
+}
+
+/// Makes the rules of a grammar: its root rule, those of its injections, and those inside the root rule.
+fn walk_grammar(
+    alloc: Global,
+    home: &Home,
+    walk: &mut Walk,
+    raw: &RawGrammar,
+) -> Result<(), OutOfMemory>
+    requires { walk.old.scopes.items ≡ [] }
+    ensures scopes { OnOk result (walk.new.scopes.items ≡ []) }
+    ensures rules { OnOk result (walk.new.rules.items ≡ walk.old.rules.items ++ grammar_rules home.now.loaded.now home.now.grammar.now raw.now) }
+{
+    let root = home.grammar.root;
+    let Some(inside) = load::inside_root(raw, root) else {
+        return Err(OutOfMemory);
+    };
+    let Some(injections) = sizes::next(root) else {
+        return Err(OutOfMemory);
+    };
+    let Some(numbers) = sizes::first_numbers(raw.root(), inside) else {
+        return Err(OutOfMemory);
+    };
+    let names = loaded::entries(alloc, raw.root().repository.as_slice(), numbers.repository)?;
+    walk.scopes.push(names)?;
+    push_own(alloc, home, walk, raw.root(), numbers, true)?;
+    walk_names(alloc, home, walk, raw.injections(), injections)?;
+    let _names = walk.scopes.pop();
+    walk_rule(alloc, home, walk, raw.root(), inside, false)
+}
+
+/// The rules of all grammars. What includes see of them is numbered in the same order.
+pub fn rules_of(
+    alloc: Global,
+    grammars: &[&RawGrammar],
+    loaded: &[Loaded],
+) -> Result<Vec<Rule>, OutOfMemory>
+    ensures { IfOk result (λ rules. rules.items ≡ rules_from loaded.now loaded.now (map (λ g. g.now) grammars.now)) }
+{
+    let mut walk = Walk {
+        scopes: Vec::new(alloc),
+        rules: Vec::new(alloc),
+    };
+    for i in 0..grammars.len() {
+        let Some(grammar) = loaded.get(i) else {
+            return Err(OutOfMemory);
+        };
+        walk_grammar(alloc, &Home { loaded, grammar }, &mut walk, grammars[i])?;
+    }
+    let Walk { rules, .. } = walk;
+    Ok(rules)
 }
