@@ -59,5 +59,5 @@ length-rules loaded n (g ∷ gs) =
   length-append (grammar_rules loaded first g) _ ∙ ap₂ (λ (a b : ℕ). a + b) (length-grammar loaded first g) (length-rules loaded (n + grammar_size g) gs)
 
 -- as many rules as are counted
-pub length-plain : (parts : Grammars) → length (plain_rules parts) ≡ grammars_size (grammars_of parts)
-length-plain parts = length-rules (loaded_from 0 (grammars_of parts)) 0 (grammars_of parts)
+pub length_plain : (parts : Grammars) → length (plain_rules parts) ≡ grammars_size (grammars_of parts)
+length_plain parts = length-rules (loaded_from 0 (grammars_of parts)) 0 (grammars_of parts)

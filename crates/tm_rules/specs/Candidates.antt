@@ -21,6 +21,21 @@ patterns_of rule = []
 abbrev pub is_among : ℕ → List ℕ → Bool
 is_among n opened = list_any (nat_eq n) opened
 
+-- what the patterns of a rule contribute, unless it is open
+abbrev pub unless_open : Bool → (ℕ → List Candidate) → List ℕ → List Candidate
+unless_open true contributes patterns = []
+unless_open false contributes patterns = flat_map contributes patterns
+
+-- the start of a rule, unless it is an include-only one
+abbrev pub start_unless : Bool → ℕ → List Candidate
+start_unless true n = []
+start_unless false n = Start n ∷ []
+
+-- an end behind the others, or before them
+abbrev pub with_end : Bool → List Candidate → List Candidate
+with_end true cs = cs ++ End ∷ []
+with_end false cs = End ∷ cs
+
 module _ (rules : List Rule) where
   -- how many of the include-only rules below this number are not open
   abbrev pub unopened_below : List ℕ → ℕ → ℕ
@@ -29,14 +44,6 @@ module _ (rules : List Rule) where
 
   abbrev pub unopened : List ℕ → ℕ
   unopened opened = unopened_below opened (length rules)
-
-  abbrev pub unless_open : Bool → (ℕ → List Candidate) → List ℕ → List Candidate
-  unless_open true contributes patterns = []
-  unless_open false contributes patterns = flat_map contributes patterns
-
-  abbrev pub start_unless : Bool → ℕ → List Candidate
-  start_unless true n = []
-  start_unless false n = Start n ∷ []
 
   -- What a rule contributes while some include-only rules are open, that is, being flattened: a match or begin rule its
   -- start, an include-only rule what its patterns contribute while it is open too, or nothing if it is open already. The
@@ -54,10 +61,6 @@ module _ (rules : List Rule) where
   -- what an include of the rule contributes
   abbrev pub included_candidates : ℕ → List Candidate
   included_candidates n = flattened [] n
-
-  abbrev pub with_end : Bool → List Candidate → List Candidate
-  with_end true cs = cs ++ End ∷ []
-  with_end false cs = End ∷ cs
 
   -- A begin/end rule's own candidates are those of its patterns with its end first, or last by its flag; those of other
   -- rules are those of their patterns. A match rule has none, and an include-only rule is itself being flattened.

@@ -123,7 +123,7 @@ grammar_size g = 1 + names_size (names_of g.injections) + inside_size (tree_of g
 
 -- the first number inside the root rule, which has the number n
 abbrev pub inside_root : ℕ → GrammarTree → ℕ
-inside_root n g = n + 1 + names_size (names_of g.injections)
+inside_root n g = n + (1 + names_size (names_of g.injections))
 
 -- the names of a tree's own repository, where what is inside it is numbered from n on
 abbrev pub own_entries : ℕ → Tree → Entries

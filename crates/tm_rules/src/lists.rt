@@ -100,7 +100,7 @@ fn push_with_end(
     requires ended { tasks_of flow.old ≡ [] }
     ensures flow { OnOk result (IsFlow flow.old.rules.now flow.new) }
     ensures ended { OnOk result (tasks_of flow.new ≡ []) }
-    ensures list { OnOk result (list.new.items ≡ list.old.items ++ with_end flow.old.rules.now last (flat_map (flattened flow.old.rules.now []) numbers.now)) }
+    ensures list { OnOk result (list.new.items ≡ list.old.items ++ with_end last (flat_map (flattened flow.old.rules.now []) numbers.now)) }
 {
     if last {
         push_flattened(flow, list, numbers)?;

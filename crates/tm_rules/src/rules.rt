@@ -60,12 +60,15 @@ impl Rules {
         // They are refused exactly where there are more than 65,535.
         ensures many { IsErrOf result fault.TooManyRules ↔ (rule_limit < length (plain_rules parts.now)) }
     {
-        match load::count_of(parts) {
-            Some(count) if count <= RULE_LIMIT => match make(alloc, parts) {
-                Ok(rules) => Ok(rules),
-                Err(_) => Err(RulesFault::OutOfMemory),
-            },
-            _ => Err(RulesFault::TooManyRules),
+        let Some(count) = load::count_of(parts) else {
+            return Err(RulesFault::TooManyRules);
+        };
+        if count > RULE_LIMIT {
+            return Err(RulesFault::TooManyRules);
+        }
+        match make(alloc, parts) {
+            Ok(rules) => Ok(rules),
+            Err(_) => Err(RulesFault::OutOfMemory),
         }
     }
 

@@ -246,8 +246,9 @@ fn walk_grammar(
     walk.scopes.push(names)?;
     push_own(alloc, home, walk, raw.root(), numbers, true)?;
     walk_names(alloc, home, walk, raw.injections(), injections)?;
-    let _names = walk.scopes.pop();
-    walk_rule(alloc, home, walk, raw.root(), inside, false)
+    walk.scopes.clear();
+    walk_rule(alloc, home, walk, raw.root(), inside, false)?;
+    Ok(())
 }
 
 /// The rules of all grammars. What includes see of them is numbered in the same order.
