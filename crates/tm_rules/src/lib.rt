@@ -2,6 +2,8 @@
 #![tactic(auto)]
 
 pub mod candidate;
+#[cfg(test)]
+mod cases;
 pub mod grammars;
 mod flow;
 mod includes;
@@ -13,4 +15,6 @@ pub mod rules;
 mod made;
 mod parts;
 mod sizes;
+#[cfg(test)]
+mod tests;
 mod walk;
