@@ -6,3 +6,4 @@ pub mod Tasked
 pub mod Lengths
 pub mod Sums
 pub mod Pushes
+pub mod Keys

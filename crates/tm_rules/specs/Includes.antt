@@ -1,7 +1,10 @@
 -- What an include names (TextMate 1.x manual, Language Grammars; `$base` and `scope#name` after vscode-textmate).
 use Rattle.std.specs.Prelude.{ℕ, ◌+◌, List, [], ◌∷◌, codes, length, take, drop, Bool, ◌||◌, nat_eq, Option, Some, None, option_map, option_and_then, find, position, if◌then◌else◌}
+use Rattle.std.specs.BTreeMap.{insert_entry}
+use Rattle.std.specs.Cmp.Lexicographic.{slice_cmp}
 use Rattle.std.specs.Map.{lookup}
 use Rattle.std.specs.Option.{option_or}
+use Rattle.std.specs.Ordering.{nat_cmp}
 use Rattle.std.specs.Str.{bytes_eq}
 use Rattle.tm_rules.specs.Tree.{Names, NoNames, Named}
 use Rattle.tm_rules.specs.Sizes.{inside_size}
@@ -11,10 +14,14 @@ use Rattle.tm_rules.specs.declared.loaded.Loaded.{Loaded}
 abbrev pub Entries : Type 0
 Entries = List (List ℕ × ℕ)
 
+-- Names with the numbers of their rules, in the order of the names. Of two with one name the last counts.
+abbrev pub entries_after : Entries → ℕ → Names → Entries
+entries_after before n NoNames = before
+entries_after before n (Named name t rest) = entries_after (insert_entry (slice_cmp nat_cmp) before name n) (n + (1 + inside_size t)) rest
+
 -- the entries of a repository whose first rule has this number
 abbrev pub entries : ℕ → Names → Entries
-entries n NoNames = []
-entries n (Named name t rest) = (name, n) ∷ entries (n + (1 + inside_size t)) rest
+entries n names = entries_after [] n names
 
 -- the rule of a name
 abbrev pub named : List ℕ → Entries → Option ℕ

@@ -1,5 +1,6 @@
 pub mod Tree
 pub mod Sizes
+pub mod Keyed
 pub mod Includes
 pub mod Rules
 pub mod Candidates
@@ -7,3 +8,4 @@ pub mod Walk
 pub mod Tasks
 pub mod Flows
 pub mod Lists
+pub mod Laws

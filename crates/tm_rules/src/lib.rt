@@ -7,6 +7,7 @@ mod cases;
 pub mod grammars;
 mod flow;
 mod includes;
+pub mod laws;
 mod lists;
 mod load;
 mod loaded;

@@ -123,3 +123,12 @@ impl Rules {
         }
     }
 }
+
+fn crosses<T: Send + Sync>(value: &T) {
+    let _value = value;
+}
+
+/// Rules may cross and be shared between threads.
+pub fn rules_cross(rules: &Rules) {
+    crosses(rules);
+}

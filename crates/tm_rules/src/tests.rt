@@ -311,3 +311,73 @@ fn three_rules(rt: HostRuntime) -> Result<(), Fail> {
     }
     Ok(())
 }
+
+/// A front, a part so many times with a comma between, and a back.
+fn repeated(
+    alloc: Global,
+    front: &str,
+    part: &str,
+    times: u32,
+    back: &str,
+) -> Result<String, AllocError> {
+    let mut text = String::from_str(alloc, front)?;
+    for time in 0..times {
+        if time > 0 {
+            text.push(',')?;
+        }
+        text.push_str(part)?;
+    }
+    text.push_str(back)?;
+    Ok(text)
+}
+
+/// Rules of which each includes the next so many times, and the last one is this.
+fn chain(alloc: Global, length: u32, includes: u32, last: &str) -> Result<String, AllocError> {
+    let mut text = String::from_str(
+        alloc,
+        "{\"scopeName\":\"s\",\"patterns\":[{\"include\":\"#r0\"}],\"repository\":{",
+    )?;
+    for number in 0..length {
+        let next = number.saturating_add(1);
+        let part = format!(in alloc; "{{\"include\":\"#r{next}\"}}")?;
+        let front = format!(in alloc; "\"r{number}\":{{\"patterns\":[")?;
+        text.push_str(repeated(alloc, front.as_str(), part.as_str(), includes, "]},")?.as_str())?;
+    }
+    text.push_str(format!(in alloc; "\"r{length}\":{last}}}}}")?.as_str())?;
+    Ok(text)
+}
+
+/// How many rules there are and how many candidates the root rule has, or the refusal.
+fn counts(alloc: Global, file: &str) -> Result<String, Fail> {
+    let parts = grammars_of(alloc, file)?;
+    match Rules::build(alloc, &parts) {
+        Ok(rules) => {
+            let number = rules.len();
+            let mut all = 0;
+            if number > 0 {
+                all = rules.candidates(0).len();
+            }
+            Ok(format!(in alloc; "{number} {all}")?)
+        }
+        Err(RulesFault::TooManyRules) => Ok(String::from_str(alloc, "TooManyRules")?),
+        Err(RulesFault::OutOfMemory) => Ok(String::from_str(alloc, "OutOfMemory")?),
+    }
+}
+
+/// The greatest number of rules, lists that double with each include, and a long chain.
+#[test]
+fn limits(rt: HostRuntime) -> Result<(), Fail> {
+    let alloc = rt.alloc();
+    let front = "{\"scopeName\":\"s\",\"patterns\":[";
+    let most = repeated(alloc, front, "{}", 65_534, "]}")?;
+    assert_eq!(rt; counts(alloc, most.as_str())?.as_str(), "65535 0");
+    let more = repeated(alloc, front, "{}", 65_535, "]}")?;
+    assert_eq!(rt; counts(alloc, more.as_str())?.as_str(), "TooManyRules");
+    let doubled = chain(alloc, 10, 2, "{\"match\":\"x\"}")?;
+    assert_eq!(rt; counts(alloc, doubled.as_str())?.as_str(), "12 1024");
+    let hostile = chain(alloc, 30, 2, "{\"match\":\"x\"}")?;
+    assert_eq!(rt; counts(alloc, hostile.as_str())?.as_str(), "OutOfMemory");
+    let long = chain(alloc, 2_000, 1, "{\"match\":\"x\"}")?;
+    assert_eq!(rt; counts(alloc, long.as_str())?.as_str(), "2002 1");
+    Ok(())
+}
