@@ -40,7 +40,7 @@ module _ (rules : List Rule) (opened : List ℕ) (n : ℕ) where
 -- what an include of a match or begin rule contributes is the first of its list
 pub included-first : (rules : List Rule) (n : ℕ) (list : List Candidate) → is_only (slice_get rules n) ≡ false → list ≡ listed rules n → take 1 list ≡ included_candidates rules n
 included-first rules n list plain is =
-  ap (take 1) is
+    ap (take 1) is
     ∙ ap (λ (b : Bool). take 1 (start_unless b n ++ flattened_candidates rules n)) plain
     ∙ sym (flattened-start rules [] n plain)
 
@@ -48,9 +48,9 @@ included-first rules n list plain is =
 pub included-read : (now rules : List Rule) (lists : List (List Candidate)) (n : ℕ) (r : Rule) (list item : List Candidate) → AreLists rules lists → rules ≡ now → n < length now
     → r ≡ get_or rules n r → item ≡ get_or lists n item → list ≡ item → is_only (Some r) ≡ false → take 1 list ≡ included_candidates now n
 included-read now rules lists n r list item are same within rule_is item_is list_is plain =
-  let inside : n < length rules = omega (arith, ap length same) in
-  let at : slice_get rules n ≡ Some r = slice_get_read rules (length rules) n r refl inside rule_is in
-  let there : slice_get lists n ≡ Some item = slice_get_read lists (length lists) n item refl (omega (arith, are.long)) item_is in
-  let right = are.right n inside in
-  let is : item ≡ listed rules n = cc in
-  subst (λ (rs : List Rule). take 1 list ≡ included_candidates rs n) same (included-first rules n list (ap is_only at ∙ plain) (list_is ∙ is))
+    let inside : n < length rules = omega (arith, ap length same) in
+    let at : slice_get rules n ≡ Some r = slice_get_read rules (length rules) n r refl inside rule_is in
+    let there : slice_get lists n ≡ Some item = slice_get_read lists (length lists) n item refl (omega (arith, are.long)) item_is in
+    let right = are.right n inside in
+    let is : item ≡ listed rules n = cc in
+    subst (λ (rs : List Rule). take 1 list ≡ included_candidates rs n) same (included-first rules n list (ap is_only at ∙ plain) (list_is ∙ is))

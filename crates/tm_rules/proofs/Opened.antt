@@ -1,11 +1,11 @@
 -- A raw rule's tree, by the rule's fields.
-use Rattle.std.proofs.Common.{◌≡◌, ℕ, ◌+◌, Bool, Option, Some, List, map, refl, ap, ◌∙◌}
+use Rattle.std.proofs.Common.{◌≡◌, ℕ, ◌+◌, Option, Some, List, refl, ap, ◌∙◌}
 use Rattle.std.specs.Prelude.{None, is_some}
 use Rattle.tm_grammar.specs.declared.raw.RawRule.{RawRule, map-RawRule}
 use Rattle.tm_grammar.specs.declared.raw.RawRule.TheOpen.{RawRule-F}
 use Rattle.tm_grammar.specs.declared.raw.RawRule.TheViews.{out-RawRule}
 use Rattle.tm_grammar.specs.declared.raw.RawRule.TheFolds.{fold_out-RawRule}
-use Rattle.tm_rules.specs.Tree.{Keys, Tree, Node, keys_in, captures_if, items_if, node_tree, tree_of, captures_of_if, items_of_if, names_of}
+use Rattle.tm_rules.specs.Tree.{Tree, Node, keys_in, captures_if, items_if, node_tree, tree_of, captures_of_if, items_of_if, names_of}
 use Rattle.tm_rules.specs.Sizes.{inside_size, captures_size, items_size, names_size}
 
 abbrev pub node_of : RawRule-F RawRule → Tree

@@ -1,5 +1,5 @@
 -- How many rules all grammars have.
-use Rattle.std.proofs.Common.{◌≡◌, ◌+◌, List, [], ◌∷◌, ◌++◌, refl, ap, arith}
+use Rattle.std.proofs.Common.{◌≡◌, ◌+◌, List, [], ◌∷◌, ◌++◌, arith}
 use Rattle.tm_grammar.specs.File.{GrammarTree}
 use Rattle.tm_rules.specs.Rules.{grammar_size, grammars_size, grammars_of}
 use Rattle.tm_rules.specs.declared.grammars.Grammars.{Grammars}

@@ -1,5 +1,5 @@
 -- How many include-only rules are not open, when one more is opened.
-use Rattle.std.proofs.Common.{◌≡◌, ℕ, zero, suc, ◌+◌, ◌<◌, ◌≤◌, ◌≢◌, ◌&&◌, ◌||◌, not, Bool, true, false, List, [], ◌∷◌, Option, Some, length, slice_get, inl, inr, refl, ap, ap₂, sym, ◌∙◌, arith}
+use Rattle.std.proofs.Common.{◌≡◌, ℕ, zero, suc, ◌+◌, ◌<◌, ◌≤◌, ◌≢◌, ◌&&◌, not, true, false, List, ◌∷◌, Option, Some, length, slice_get, inl, inr, refl, ap, ap₂, sym, ◌∙◌, arith}
 use Rattle.std.specs.Prelude.{None, nat_eq, if◌then◌else◌}
 use Rattle.std.proofs.lemmas.Bool.{eq-eqb}
 use Rattle.std.proofs.lemmas.Bool.Decides.{eqb_tells, nat_tests}
@@ -52,11 +52,11 @@ module _ (rules : List Rule) (opened : List ℕ) (n : ℕ) where
     unopened-behind : (m : ℕ) → n < m → unopened_below rules opened m ≡ suc (unopened_below rules (n ∷ opened) m)
     unopened-behind zero h = absurd (omega arith)
     unopened-behind (suc m) h = elim (eqb_tells m n) [
-        inl e ↦ ap₂ (λ (a b : ℕ). a + b) (ap (here opened) e.1 ∙ here_before) (unopened-before m (omega (arith, e.1)))
-            ∙ one_more (unopened_below rules (n ∷ opened) m)
-            ∙ sym (ap (λ (a : ℕ). suc (a + unopened_below rules (n ∷ opened) m)) (ap (here (n ∷ opened)) e.1 ∙ here_after))
+      | inl e ↦ ap₂ (λ (a b : ℕ). a + b) (ap (here opened) e.1 ∙ here_before) (unopened-before m (omega (arith, e.1)))
+          ∙ one_more (unopened_below rules (n ∷ opened) m)
+          ∙ sym (ap (λ (a : ℕ). suc (a + unopened_below rules (n ∷ opened) m)) (ap (here (n ∷ opened)) e.1 ∙ here_after))
       | inr e ↦ ap₂ (λ (a b : ℕ). a + b) (here_other m e.1) (unopened-behind m (above m h e.1)) ∙ moved (here (n ∷ opened) m) (unopened_below rules (n ∷ opened) m)
-      ]
+    ]
 
     -- one less is not open
     pub unopened-opened : unopened rules opened ≡ suc (unopened rules (n ∷ opened))

@@ -1,5 +1,5 @@
 -- The candidates of rules, flattened.
-use Rattle.std.specs.Prelude.{ℕ, zero, suc, ◌+◌, List, [], ◌∷◌, ◌++◌, length, Bool, true, false, not, ◌&&◌, ◌||◌, nat_eq, Option, Some, None, flat_map, slice_get, if◌then◌else◌}
+use Rattle.std.specs.Prelude.{ℕ, zero, suc, ◌+◌, List, [], ◌∷◌, ◌++◌, length, Bool, true, false, not, ◌&&◌, ◌||◌, nat_eq, Option, Some, flat_map, slice_get, if◌then◌else◌}
 use Rattle.std.specs.List.{list_any}
 use Rattle.tm_rules.specs.declared.candidate.Candidate.{Candidate}
 use Rattle.tm_rules.specs.declared.candidate.Candidate.TheVariants.{Start, End}
@@ -51,7 +51,7 @@ module _ (rules : List Rule) where
   unfoldable pub contributed : ℕ → List ℕ → ℕ → List Candidate
   contributed zero opened n = start_unless (is_only (slice_get rules n)) n
   contributed (suc depth) opened n =
-    start_unless (is_only (slice_get rules n)) n
+      start_unless (is_only (slice_get rules n)) n
       ++ unless_open (not (is_only (slice_get rules n)) || is_among n opened) (contributed depth (n ∷ opened)) (patterns_of (slice_get rules n))
 
   -- What a rule contributes.

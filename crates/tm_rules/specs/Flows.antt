@@ -1,5 +1,5 @@
 -- A flattening on its way.
-use Rattle.std.specs.Prelude.{◌≡◌, ℕ, List}
+use Rattle.std.specs.Prelude.{◌≡◌, List}
 use Rattle.tm_rules.specs.Tasks.{opened_by, stacked, AreMarked}
 use Rattle.tm_rules.specs.declared.flow.Task.{Task}
 use Rattle.tm_rules.specs.declared.flow.Flow.{Flow}

@@ -5,7 +5,6 @@ use Rattle.tm_rules.specs.Includes.{Entries}
 use Rattle.tm_rules.specs.Rules.{rules_inside, rules_in_captures, rules_in_items, rules_in_names}
 use Rattle.tm_rules.specs.Sizes.{inside_size, captures_size, items_size, names_size}
 use Rattle.tm_rules.specs.Tree.{Tree, Captures, Items, Names}
-use Rattle.tm_rules.specs.declared.candidate.Candidate.{Candidate}
 use Rattle.tm_rules.specs.declared.candidate.Candidate.TheVariants.{Start}
 use Rattle.tm_rules.specs.declared.loaded.Loaded.{Loaded}
 use Rattle.tm_rules.specs.declared.rule.Rule.{Rule}

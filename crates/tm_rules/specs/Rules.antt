@@ -1,5 +1,5 @@
 -- The rules of grammars, by number.
-use Rattle.std.specs.Prelude.{ℕ, ◌+◌, List, [], ◌∷◌, ◌++◌, map, Bool, ◌||◌, Option, Some, None, option_and_then, option_to_list, is_some, if◌then◌else◌}
+use Rattle.std.specs.Prelude.{ℕ, ◌+◌, List, [], ◌∷◌, ◌++◌, map, ◌||◌, Option, Some, None, option_and_then, option_to_list, is_some, if◌then◌else◌}
 use Rattle.std.specs.BTreeMap.{insert_entry}
 use Rattle.std.specs.Ordering.{nat_cmp}
 use Rattle.tm_grammar.specs.File.{GrammarTree}
@@ -16,12 +16,12 @@ use Rattle.tm_rules.specs.declared.rule.Rule.TheVariants as R
 -- The number of the first rule in each part of a rule, where all that is inside it is numbered from n on.
 abbrev pub firsts : ℕ → Tree → FirstNumbers
 firsts n (Node keys begins all ends listed named whiles) =
-  let at_all = n + captures_size begins in
-  let at_ends = at_all + captures_size all in
-  let at_items = at_ends + captures_size ends in
-  let at_names = at_items + items_size listed in
-  let at_whiles = at_names + names_size named in
-  record { begin_captures = n; captures = at_all; end_captures = at_ends; patterns = at_items; repository = at_names; while_captures = at_whiles }
+    let at_all = n + captures_size begins in
+    let at_ends = at_all + captures_size all in
+    let at_items = at_ends + captures_size ends in
+    let at_names = at_items + items_size listed in
+    let at_whiles = at_names + names_size named in
+    record { begin_captures = n; captures = at_all; end_captures = at_ends; patterns = at_items; repository = at_names; while_captures = at_whiles }
 
 -- the repositories around what is inside a rule: its own extends the outer ones
 abbrev pub inner : List Entries → ℕ → Tree → List Entries
@@ -94,24 +94,24 @@ module _ (loaded : List Loaded) (grammar : Loaded) where
     -- The rules inside a rule, numbered from n on: a rule stands before those inside it.
     pub rules_inside : List Entries → ℕ → Tree → List Rule
     rules_inside scopes n (Node keys begins all ends listed named whiles) =
-      let t = Node keys begins all ends listed named whiles in
-      let f = firsts n t in
-      let around = inner scopes n t in
-      rules_in_captures around f.begin_captures begins ++ (rules_in_captures around f.captures all ++ (rules_in_captures around f.end_captures ends
-          ++ (rules_in_items around f.patterns listed ++ (rules_in_names around f.repository named ++ rules_in_captures around f.while_captures whiles))))
+        let t = Node keys begins all ends listed named whiles in
+        let f = firsts n t in
+        let around = inner scopes n t in
+        rules_in_captures around f.begin_captures begins ++ (rules_in_captures around f.captures all ++ (rules_in_captures around f.end_captures ends
+        ++ (rules_in_items around f.patterns listed ++ (rules_in_names around f.repository named ++ rules_in_captures around f.while_captures whiles))))
 
     -- a capture is a rule where it has `patterns`; what is inside another one has numbers too
     pub rules_in_captures : List Entries → ℕ → Captures → List Rule
     rules_in_captures scopes n NoCaptures = []
     rules_in_captures scopes n (Capture group t rest) =
-      let own = if has_patterns t then 1 else 0 in
-      (if has_patterns t then rule_at scopes (n + own) t ∷ [] else []) ++ (rules_inside scopes (n + own) t ++ rules_in_captures scopes (n + (own + inside_size t)) rest)
+        let own = if has_patterns t then 1 else 0 in
+        (if has_patterns t then rule_at scopes (n + own) t ∷ [] else []) ++ (rules_inside scopes (n + own) t ++ rules_in_captures scopes (n + (own + inside_size t)) rest)
 
     -- nothing inside an include has a number
     pub rules_in_items : List Entries → ℕ → Items → List Rule
     rules_in_items scopes n NoItems = []
     rules_in_items scopes n (Item t rest) =
-      (if is_include t then [] else rule_at scopes (n + 1) t ∷ rules_inside scopes (n + 1) t) ++ rules_in_items scopes (n + (if is_include t then 0 else 1 + inside_size t)) rest
+        (if is_include t then [] else rule_at scopes (n + 1) t ∷ rules_inside scopes (n + 1) t) ++ rules_in_items scopes (n + (if is_include t then 0 else 1 + inside_size t)) rest
 
     pub rules_in_names : List Entries → ℕ → Names → List Rule
     rules_in_names scopes n NoNames = []
@@ -137,9 +137,9 @@ loaded_from n (g ∷ gs) = record { scope = g.scope_name; root = n; repository =
 -- The names of the root rule's repository stand in its injections too.
 abbrev pub grammar_rules : List Loaded → Loaded → GrammarTree → List Rule
 grammar_rules loaded grammar g =
-  let n = inside_root grammar.root g in
-  let t = tree_of g.root in
-  rule_at loaded grammar [] n t ∷ (rules_in_names loaded grammar (inner [] n t) (grammar.root + 1) (names_of g.injections) ++ rules_inside loaded grammar [] n t)
+    let n = inside_root grammar.root g in
+    let t = tree_of g.root in
+    rule_at loaded grammar [] n t ∷ (rules_in_names loaded grammar (inner [] n t) (grammar.root + 1) (names_of g.injections) ++ rules_inside loaded grammar [] n t)
 
 abbrev pub rules_from : List Loaded → List Loaded → List GrammarTree → List Rule
 rules_from loaded (l ∷ ls) (g ∷ gs) = grammar_rules loaded l g ++ rules_from loaded ls gs

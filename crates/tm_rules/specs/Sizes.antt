@@ -1,6 +1,6 @@
 -- How many rules get numbers.
 use Rattle.std.specs.Prelude.{◌≡◌, ℕ, ◌+◌, ◌<◌, List, [], ◌∷◌, Bool, Option, Some, None, is_some, if◌then◌else◌}
-use Rattle.tm_rules.specs.Tree.{Keys, Tree, Node, keys_of, Captures, NoCaptures, Capture, Items, NoItems, Item, Names, NoNames, Named}
+use Rattle.tm_rules.specs.Tree.{Tree, Node, keys_of, Captures, NoCaptures, Capture, Items, NoItems, Item, Names, NoNames, Named}
 
 -- no more rules than this have numbers
 abbrev pub rule_limit : ℕ
@@ -24,7 +24,7 @@ abbrev mutual
   -- how many rules there are inside a rule, without itself
   pub inside_size : Tree → ℕ
   inside_size (Node keys begins all ends listed named whiles) =
-    captures_size begins + captures_size all + captures_size ends + items_size listed + names_size named + captures_size whiles
+      captures_size begins + captures_size all + captures_size ends + items_size listed + names_size named + captures_size whiles
 
   pub captures_size : Captures → ℕ
   captures_size NoCaptures = 0

@@ -1,5 +1,5 @@
 -- What is left of a flattening that goes by a list of tasks.
-use Rattle.std.specs.Prelude.{◌≡◌, ℕ, ◌<◌, ⊤, List, [], ◌∷◌, ◌++◌, length, reverse, Bool, false, slice_get, get_or, Option, Some, None}
+use Rattle.std.specs.Prelude.{◌≡◌, ℕ, ◌<◌, ⊤, List, [], ◌∷◌, ◌++◌, length, reverse, Bool, false, get_or, Option, Some, None}
 use Rattle.tm_rules.specs.Candidates.{is_among, flattened}
 use Rattle.tm_rules.specs.declared.candidate.Candidate.{Candidate}
 use Rattle.tm_rules.specs.declared.candidate.Candidate.TheVariants.{Start}

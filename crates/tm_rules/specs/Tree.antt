@@ -1,5 +1,5 @@
 -- Raw rules as plain trees: the texts of a rule's keys, and the rules inside it.
-use Rattle.std.specs.Prelude.{ℕ, Bool, List, [], ◌∷◌, Option, Some, None, option_map, is_some, map}
+use Rattle.std.specs.Prelude.{ℕ, Bool, List, [], ◌∷◌, Option, Some, None, is_some, map}
 use Rattle.tm_grammar.specs.declared.raw.RawRule.{RawRule}
 use Rattle.tm_grammar.specs.declared.raw.RawRule.TheOpen.{RawRule-F}
 use Rattle.tm_grammar.specs.declared.raw.RawRule.TheFolds.{fold-RawRule}

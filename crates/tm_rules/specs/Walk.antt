@@ -12,7 +12,7 @@ use Rattle.tm_rules.specs.declared.rule.Rule.{Rule}
 -- those of each part, in the order of the walk
 abbrev pub rules_in_parts : List Loaded → Loaded → List Entries → FirstNumbers → RawRule-F RawRule → List Rule
 rules_in_parts loaded grammar scopes f r =
-  rules_in_captures loaded grammar scopes f.begin_captures (captures_of_if r.begin_captures)
+    rules_in_captures loaded grammar scopes f.begin_captures (captures_of_if r.begin_captures)
     ++ (rules_in_captures loaded grammar scopes f.captures (captures_of_if r.captures)
     ++ (rules_in_captures loaded grammar scopes f.end_captures (captures_of_if r.end_captures)
     ++ (rules_in_items loaded grammar scopes f.patterns (items_of_if r.patterns)

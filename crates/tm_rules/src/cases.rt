@@ -1,7 +1,8 @@
 //! Grammars and their rules, worked out by hand.
 
 /// The grammar of three rules that the examples use.
-pub const THREE_RULES: &str = r##"{"scopeName":"source.t","patterns":[{"begin":"\"","end":"\"","name":"string.t"},{"match":"\\b(let)\\b","name":"keyword.t"},{"begin":"/\\*","end":"\\*/","name":"comment.block.t"}]}"##;
+pub const THREE_RULES: &str =
+    r##"{"scopeName":"source.t","patterns":[{"begin":"\"","end":"\"","name":"string.t"},{"match":"\\b(let)\\b","name":"keyword.t"},{"begin":"/\\*","end":"\\*/","name":"comment.block.t"}]}"##;
 
 /// In each line the root grammar, further ones behind ` ++ ` and injected ones behind ` ** `, and their
 /// rules. A rule is its number, its kind (M for match, B begin/end, W begin/while, O include-only) and

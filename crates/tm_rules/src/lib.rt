@@ -4,17 +4,17 @@
 pub mod candidate;
 #[cfg(test)]
 mod cases;
-pub mod grammars;
 mod flow;
+pub mod grammars;
 mod includes;
 pub mod laws;
 mod lists;
 mod load;
 mod loaded;
-pub mod rule;
-pub mod rules;
 mod made;
 mod parts;
+pub mod rule;
+pub mod rules;
 mod sizes;
 #[cfg(test)]
 mod tests;

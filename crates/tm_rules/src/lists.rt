@@ -80,7 +80,9 @@ fn list_of(
             push_flattened(flow, &mut list, patterns.as_slice())?;
         }
         Rule::BeginEnd {
-            patterns, end_last, ..
+            patterns,
+            end_last,
+            ..
         } => {
             list.push(Candidate::Start(number))?;
             push_with_end(flow, &mut list, patterns.as_slice(), *end_last)?;

@@ -79,10 +79,7 @@ fn captures_by_group(
 }
 
 /// The captures of a map, in the order of their groups.
-fn in_order(
-    alloc: Global,
-    by_group: BTreeMap<u32, Capture>,
-) -> Result<Captures, OutOfMemory>
+fn in_order(alloc: Global, by_group: BTreeMap<u32, Capture>) -> Result<Captures, OutOfMemory>
     ensures { IfOk result (λ cs. cs ≡ values_of by_group.entries) }
 {
     let mut list = Vec::new(alloc);
@@ -101,10 +98,7 @@ pub fn captures_from(
     ensures { IfOk result (λ cs. cs ≡ captures_from first (captures_of_if captures.now)) }
 {
     match captures {
-        Some(captures) => in_order(
-            alloc,
-            captures_by_group(alloc, captures.as_slice(), first)?,
-        ),
+        Some(captures) => in_order(alloc, captures_by_group(alloc, captures.as_slice(), first)?),
         None => Ok(Captures::new(Vec::new(alloc))),
     }
 }

@@ -7,11 +7,9 @@ ghost use Rattle.tm_rules.specs.declared.grammars.RulesFault.TheVariants as faul
 
 use crate::candidate::Candidate;
 use crate::grammars::{Grammars, RulesFault};
-use crate::lists;
-use crate::load;
 use crate::rule::Rule;
 use crate::sizes::RULE_LIMIT;
-use crate::walk;
+use crate::{lists, load, walk};
 use sqlite_items::Items;
 use std::alloc::Global;
 use std::marker::Model;

@@ -1,3 +1,7 @@
+ghost use Rattle.std.specs.Prelude.{◌≡◌, length, IfOk, IfSome};
+ghost use Rattle.tm_rules.specs.Candidates.{flattened_candidates};
+ghost use Rattle.tm_rules.specs.Rules.{plain_rules};
+
 use crate::candidate::Candidate;
 use crate::cases;
 use crate::grammars::{Grammars, RulesFault};
@@ -107,12 +111,14 @@ fn push_candidates(
     Ok(())
 }
 
+/// The kind of a rule, its path, its scope unless that is `s`, and its names.
 fn push_head(
     alloc: Global,
     text: &mut String,
     kind: &str,
     grammar: &Name,
     path: &Name,
+    names: (&Option<Name>, &Option<Name>),
 ) -> Result<(), AllocError> {
     text.push_str(kind)?;
     push_path(alloc, text, path)?;
@@ -120,91 +126,104 @@ fn push_head(
         text.push_str(" @")?;
         push_name(text, grammar)?;
     }
-    Ok(())
+    push_text(text, " n=", names.0)?;
+    push_text(text, " c=", names.1)
 }
 
-fn push_names(
-    text: &mut String,
-    name: &Option<Name>,
-    content_name: &Option<Name>,
-) -> Result<(), AllocError> {
-    push_text(text, " n=", name)?;
-    push_text(text, " c=", content_name)
-}
-
-fn push_rule(alloc: Global, text: &mut String, rule: &Rule) -> Result<(), AllocError> {
+fn push_heading(alloc: Global, text: &mut String, rule: &Rule) -> Result<(), AllocError> {
     match rule {
         Rule::Match {
             grammar,
             path,
             name,
             content_name,
-            match_text,
-            captures,
-        } => {
-            push_head(alloc, text, "M", grammar, path)?;
-            push_names(text, name, content_name)?;
-            text.push_str(" m=")?;
-            push_name(text, match_text)?;
-            push_captures(alloc, text, " C", captures)
-        }
+            ..
+        } => push_head(alloc, text, "M", grammar, path, (name, content_name)),
         Rule::BeginEnd {
             grammar,
             path,
             name,
             content_name,
-            begin,
-            end_text,
-            end_last,
-            begin_captures,
-            end_captures,
-            patterns,
-        } => {
-            push_head(alloc, text, "B", grammar, path)?;
-            push_names(text, name, content_name)?;
-            text.push_str(" b=")?;
-            push_name(text, begin)?;
-            push_text(text, " e=", end_text)?;
-            if *end_last {
-                text.push_str(" last")?;
-            }
-            push_captures(alloc, text, " B", begin_captures)?;
-            push_captures(alloc, text, " E", end_captures)?;
-            push_patterns(alloc, text, patterns)
-        }
+            ..
+        } => push_head(alloc, text, "B", grammar, path, (name, content_name)),
         Rule::BeginWhile {
             grammar,
             path,
             name,
             content_name,
-            begin,
-            while_text,
-            begin_captures,
-            while_captures,
-            patterns,
-        } => {
-            push_head(alloc, text, "W", grammar, path)?;
-            push_names(text, name, content_name)?;
-            text.push_str(" b=")?;
-            push_name(text, begin)?;
-            text.push_str(" w=")?;
-            push_name(text, while_text)?;
-            push_captures(alloc, text, " B", begin_captures)?;
-            push_captures(alloc, text, " W", while_captures)?;
-            push_patterns(alloc, text, patterns)
-        }
+            ..
+        } => push_head(alloc, text, "W", grammar, path, (name, content_name)),
         Rule::Only {
             grammar,
             path,
             name,
             content_name,
-            patterns,
+            ..
+        } => push_head(alloc, text, "O", grammar, path, (name, content_name)),
+    }
+}
+
+fn push_required(text: &mut String, word: &str, value: &Name) -> Result<(), AllocError> {
+    text.push_str(word)?;
+    push_name(text, value)
+}
+
+fn push_texts(text: &mut String, rule: &Rule) -> Result<(), AllocError> {
+    match rule {
+        Rule::Match { match_text, .. } => push_required(text, " m=", match_text),
+        Rule::BeginEnd {
+            begin,
+            end_text,
+            end_last,
+            ..
         } => {
-            push_head(alloc, text, "O", grammar, path)?;
-            push_names(text, name, content_name)?;
+            push_required(text, " b=", begin)?;
+            push_text(text, " e=", end_text)?;
+            text.push_str(if *end_last { " last" } else { "" })
+        }
+        Rule::BeginWhile {
+            begin,
+            while_text,
+            ..
+        } => {
+            push_required(text, " b=", begin)?;
+            push_required(text, " w=", while_text)
+        }
+        Rule::Only { .. } => Ok(()),
+    }
+}
+
+fn push_parts(alloc: Global, text: &mut String, rule: &Rule) -> Result<(), AllocError> {
+    match rule {
+        Rule::Match { captures, .. } => push_captures(alloc, text, " C", captures),
+        Rule::BeginEnd {
+            begin_captures,
+            end_captures,
+            patterns,
+            ..
+        } => {
+            push_captures(alloc, text, " B", begin_captures)?;
+            push_captures(alloc, text, " E", end_captures)?;
             push_patterns(alloc, text, patterns)
         }
+        Rule::BeginWhile {
+            begin_captures,
+            while_captures,
+            patterns,
+            ..
+        } => {
+            push_captures(alloc, text, " B", begin_captures)?;
+            push_captures(alloc, text, " W", while_captures)?;
+            push_patterns(alloc, text, patterns)
+        }
+        Rule::Only { patterns, .. } => push_patterns(alloc, text, patterns),
     }
+}
+
+fn push_rule(alloc: Global, text: &mut String, rule: &Rule) -> Result<(), AllocError> {
+    push_heading(alloc, text, rule)?;
+    push_texts(text, rule)?;
+    push_parts(alloc, text, rule)
 }
 
 /// All rules in one line.
@@ -295,6 +314,8 @@ fn grammars_and_their_rules(rt: HostRuntime) -> Result<(), Fail> {
 fn three_rules(rt: HostRuntime) -> Result<(), Fail> {
     let alloc = rt.alloc();
     let parts = grammars_of(alloc, cases::THREE_RULES)?;
+    assert!(rt; tries(alloc, &parts, 3) == Ok(Some(1)));
+    assert!(rt; tries(alloc, &parts, 4) == Ok(None));
     let Ok(rules) = Rules::build(alloc, &parts) else {
         return Err(Fail::from(AllocError));
     };
@@ -345,6 +366,17 @@ fn chain(alloc: Global, length: u32, includes: u32, last: &str) -> Result<String
     }
     text.push_str(format!(in alloc; "\"r{length}\":{last}}}}}")?.as_str())?;
     Ok(text)
+}
+
+/// How many candidates are tried for a rule, where there is a rule of this number.
+fn tries(alloc: Global, parts: &Grammars, n: u32) -> Result<Option<usize>, RulesFault>
+    ensures { IfOk result (λ tries. IfSome tries (λ count. count ≡ length (flattened_candidates (plain_rules parts.now) n))) }
+{
+    match Rules::build(alloc, parts) {
+        Ok(rules) if n < rules.len() => Ok(Some(rules.candidates(n).len())),
+        Ok(_) => Ok(None),
+        Err(fault) => Err(fault),
+    }
 }
 
 /// How many rules there are and how many candidates the root rule has, or the refusal.

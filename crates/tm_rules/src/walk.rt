@@ -11,11 +11,10 @@ ghost use Rattle.tm_grammar.specs.declared.raw.RawRule.TheViews.{out-RawRule};
 ghost use Rattle.tm_rules.specs.Tree.{tree_of, captures_of_if, items_of_if, names_of};
 
 use crate::includes::Home;
-use crate::load;
 use crate::loaded::{self, Loaded, Repository};
-use crate::made;
 use crate::rule::Rule;
 use crate::sizes::{self, FirstNumbers};
+use crate::{load, made};
 use std::alloc::Global;
 use tm_defs::memory::OutOfMemory;
 use tm_defs::texts::Name;
@@ -62,12 +61,30 @@ fn walk_parts(
     ensures rules { OnOk result (walk.new.rules.items ≡ walk.old.rules.items
         ++ rules_in_parts home.now.loaded.now home.now.grammar.now walk.old.scopes.items numbers (out-RawRule raw.now)) }
 {
-    walk_captures(alloc, home, walk, &raw.begin_captures, numbers.begin_captures)?;
+    walk_captures(
+        alloc,
+        home,
+        walk,
+        &raw.begin_captures,
+        numbers.begin_captures,
+    )?;
     walk_captures(alloc, home, walk, &raw.captures, numbers.captures)?;
     walk_captures(alloc, home, walk, &raw.end_captures, numbers.end_captures)?;
     walk_items(alloc, home, walk, &raw.patterns, numbers.patterns)?;
-    walk_names(alloc, home, walk, raw.repository.as_slice(), numbers.repository)?;
-    walk_captures(alloc, home, walk, &raw.while_captures, numbers.while_captures)
+    walk_names(
+        alloc,
+        home,
+        walk,
+        raw.repository.as_slice(),
+        numbers.repository,
+    )?;
+    walk_captures(
+        alloc,
+        home,
+        walk,
+        &raw.while_captures,
+        numbers.while_captures,
+    )
 }
 
 /// Makes the rules inside a rule, numbered from `from` on, and before them the rule itself if it is one.

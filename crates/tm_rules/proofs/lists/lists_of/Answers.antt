@@ -1,6 +1,5 @@
-use Rattle.std.proofs.Common.{◌≡◌, length, length-append, arith}
+use Rattle.std.proofs.Common.{length-append, arith}
 use Rattle.tm_rules.specs.Candidates.{listed}
-use Rattle.tm_rules.specs.Flows.{tasks_of, IsFlow}
 use Rattle.tm_rules.proofs.Pushes.{all-push}
 use Rattle.tm_rules.proofs.lists.lists_of.Goals as goal
 

@@ -1,5 +1,4 @@
 use Rattle.std.proofs.Common.{◌≡◌, ◌++◌}
-use Rattle.std.specs.Map.{values_of}
 use Rattle.tm_rules.proofs.parts.in_order.Given as goal
 
 abbrev pub invariant-loop-capture : goal.invariant-loop-capture

@@ -1,4 +1,4 @@
-use Rattle.std.proofs.Common.{Some, refl, ap, ◌∙◌}
+use Rattle.std.proofs.Common.{Some, ap}
 use Rattle.tm_rules.specs.Candidates.{is_only}
 use Rattle.tm_rules.specs.declared.rule.Rule.{Rule}
 use Rattle.tm_rules.proofs.Flattened.{included-read}
