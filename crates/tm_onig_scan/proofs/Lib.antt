@@ -1,0 +1,4 @@
+mod Readable
+mod Scans
+mod Kept
+mod Earliest
