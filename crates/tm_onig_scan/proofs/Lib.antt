@@ -2,3 +2,4 @@ mod Readable
 mod Scans
 mod Kept
 mod Earliest
+mod Only

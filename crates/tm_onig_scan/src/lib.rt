@@ -17,11 +17,17 @@
 //! Pattern 2 wins, and the scan takes 9 steps.
 #![tactic(auto)]
 
-ghost use Rattle.std.specs.Prelude.{◌≡◌, ◌↔◌, ◌+◌, ◌<◌, ◌≤◌, ◌^◌, ℕ, Bool, List, Option, length, map, option_map, slice_get, Some, IsTrue, IsSome, OnOk, IfOk, IsErrOf};
+ghost use Rattle.std.specs.Prelude.{◌≡◌, ◌↔◌, ◌+◌, ◌<◌, ◌≤◌, ◌^◌, ℕ, Bool, List, Option, length, map, option_map, slice_get, Some, true, IsTrue, IsSome, OnOk, IfOk, IsErrOf};
 ghost use Rattle.tm_onig_class.specs.Tree.{Tree, tree_of};
 ghost use Rattle.tm_onig_parse.specs.Reading.{parsed};
+ghost use Rattle.tm_onig_search.specs.Outcomes.{Caps};
 ghost use Rattle.tm_onig_scan.specs.Winner.{trees_of, IsReadable, start_of, earlier, found, found_cost, earliest_winner, scan_cost};
-ghost use Rattle.tm_onig_scan.specs.WinnerLaws.{IsEarliest};
+ghost use Rattle.tm_onig_scan.specs.WinnerLaws.{IsEarliest, IsWinner};
+
+#[cfg(test)]
+mod table;
+#[cfg(test)]
+mod tests;
 
 use std::alloc::Global;
 use std::marker::Model;
@@ -186,8 +192,20 @@ impl Scanner {
     }
 }
 
-/// Law: the winner is found earliest of its patterns, and is the first in the list of those found there.
+/// Law: the winner is found earliest of its patterns, and is the first in the list of those found there; and
+/// what is so is the winner.
 pub fn earliest_pattern()
-    ensures { (line : List ℕ) (from : ℕ) (allow_a allow_g : Bool) (patterns : List (Option Tree)) →
+    ensures earliest { (line : List ℕ) (from : ℕ) (allow_a allow_g : Bool) (patterns : List (Option Tree)) →
         IsEarliest line from allow_a allow_g patterns }
+    ensures only { (line : List ℕ) (from : ℕ) (allow_a allow_g : Bool) (patterns : List (Option Tree)) (winner : ℕ × Caps) →
+        IsWinner line from allow_a allow_g patterns winner → earliest_winner line from allow_a allow_g patterns ≡ Some winner }
 {}
+
+fn crosses<T: Send + Sync>(value: &T) {
+    let _value = value;
+}
+
+/// Scanners may cross and be shared between threads.
+pub fn scanners_cross(scanner: &Scanner) {
+    crosses(scanner);
+}
