@@ -17,7 +17,7 @@
 //! Pattern 2 wins, and the scan takes 9 steps.
 #![tactic(auto)]
 
-ghost use Rattle.std.specs.Prelude.{◌≡◌, ◌↔◌, ◌+◌, ◌<◌, ◌≤◌, ◌^◌, ℕ, Bool, List, Option, length, map, option_map, slice_get, Some, true, IsTrue, IsSome, OnOk, IfOk, IsErrOf};
+ghost use Rattle.std.specs.Prelude.{◌≡◌, ◌↔◌, ◌+◌, ◌<◌, ◌≤◌, ◌^◌, ℕ, Bool, List, Option, length, map, option_map, Some, IsTrue, OnOk, IfOk, IsErrOf};
 ghost use Rattle.tm_onig_class.specs.Tree.{Tree, tree_of};
 ghost use Rattle.tm_onig_parse.specs.Reading.{parsed};
 ghost use Rattle.tm_onig_search.specs.Outcomes.{Caps};
