@@ -1,0 +1,5 @@
+mod Readable
+mod Scans
+mod Kept
+mod Earliest
+mod Only
