@@ -1,0 +1,5 @@
+pub mod Digits
+pub mod Forms
+pub mod Pieces
+pub mod Loops
+pub mod Words

@@ -1,0 +1,39 @@
+-- Laws about the pieces of a text: how they are found is determined by how they are spelled.
+use Rattle.std.specs.Prelude.{◌≡◌, ◌≢◌, ℕ, Bool, true, false, List, [], ◌∷◌, ◌++◌, flat_map, ⊤, IsTrue}
+use Rattle.std.specs.List.{list_all}
+use Rattle.std.specs.Char.{is_ascii_digit}
+use Rattle.tm_template.specs.declared.references.Manner.{Manner}
+use Rattle.tm_template.specs.declared.references.Manner.TheVariants.{AsCaptured, Downcase, Upcase}
+use Rattle.tm_template.specs.References.{Reference, Piece, Plain, Refers, Form, piece_text, pieces}
+use Rattle.tm_template.specs.Ends.{begins_digit}
+
+-- One or more digits.
+pub record AreDigits (ds : List ℕ) : Type 0 where
+  pub all : list_all is_ascii_digit ds ≡ true
+  pub some : ds ≢ []
+
+-- A text as it is spelled by its pieces.
+abbrev pub spelled : Form → List Piece → List ℕ
+spelled form ps = flat_map (piece_text form) ps
+
+-- Digits that nothing closes go on as long as they can.
+abbrev pub EndsBefore : Manner → List ℕ → Type 0
+EndsBefore AsCaptured rest = begins_digit rest ≡ false
+EndsBefore Downcase rest = ⊤
+EndsBefore Upcase rest = ⊤
+
+-- It is a reference that stands before this text.
+pub record StandsBefore (form : Form) (r : Reference) (rest : List ℕ) : Type 0 where
+  pub case : form.has r.manner ≡ true
+  pub digits : AreDigits r.digits
+  pub ends : EndsBefore r.manner rest
+
+-- No reference is spelled at the front of the text.
+abbrev pub BeginsNone : Form → List ℕ → Type 0
+BeginsNone form text = (r : Reference) (rest : List ℕ) → AreDigits r.digits → text ≢ form.spelling r ++ rest
+
+-- Each reference is one, and no character is the first of one.
+abbrev pub AreRead : Form → List Piece → Type 0
+AreRead form [] = ⊤
+AreRead form (Plain c ∷ ps) = BeginsNone form (c ∷ spelled form ps) × AreRead form ps
+AreRead form (Refers r ∷ ps) = StandsBefore form r (spelled form ps) × AreRead form ps
