@@ -22,7 +22,7 @@ drop_front (x ∷ s) c t some = ap (λ k. drop k t) (less s)
     less : (s : List ℕ) → length (x ∷ s) - 1 ≡ length s
     less s = omega arith
 
-piece_some : (form : Form) → IsForm form → (c : ℕ) (o : Option Reference) → 0 < length (piece_text form (piece_or c o))
+pub piece_some : (form : Form) → IsForm form → (c : ℕ) (o : Option Reference) → 0 < length (piece_text form (piece_or c o))
 piece_some form is c None = omega arith
 piece_some form is c (Some r) = is.some r
 

@@ -2,7 +2,7 @@
 use Rattle.std.proofs.Common.{◌≡◌, ℕ, ◌+◌, ◌-◌, ◌<◌, ◌≤◌, Bool, true, false, List, [], ◌∷◌, ◌++◌, length, take, drop, get_or, refl, sym, ap, ◌∙◌, subst, arith, append_assoc, append-nil, All}
 use Rattle.std.specs.Prelude.{filter}
 use Rattle.std.specs.List.{slice_range, slice_split}
-use Rattle.std.proofs.lemmas.List.{drop_more, drop-drop, take-append-drop, take_more, get_or-drop, length-drop}
+use Rattle.std.proofs.lemmas.List.{drop_more, drop-drop, take-append-drop, take_all, take_more, get_or-drop, length-drop}
 use Rattle.std.proofs.lemmas.List.Elements.{All-push, filter-append}
 use Rattle.std.proofs.lemmas.List.Splits.{slice_split_at, slice_split_none}
 use Rattle.tm_template.specs.Names.{is_blank, is_filled, words_of}
@@ -46,3 +46,9 @@ word_ends text start at order lt blank run =
 -- the last word
 pub last_word : (text : List ℕ) → IsRun text → words_of text ≡ filter is_filled (text ∷ [])
 last_word text run = ap (λ us. filter is_filled us) (slice_split_none is_blank text run)
+
+-- at the end of the text the run is the rest
+pub tail_run : (text : List ℕ) (start at : ℕ) → length text ≤ at → IsRun (slice_range text start at) → IsRun (drop start text)
+tail_run text start at le run =
+    let long = length-drop start text in
+    subst IsRun (take_all (at - start) (drop start text) (omega (arith, long, le))) run

@@ -18,6 +18,7 @@
 #![tactic(auto)]
 
 mod captures;
+pub mod ends;
 pub mod laws;
 pub mod names;
 pub mod references;

@@ -6,13 +6,14 @@ use Rattle.std.proofs.lemmas.Int.Digits.{digits_value_more}
 use Rattle.std.proofs.lemmas.Str.Parse.{digits_value-take-le}
 use Rattle.std.proofs.lemmas.Option.{slice_get_past, slice_get-get_or}
 use Rattle.std.proofs.lemmas.List.{take_all}
+use Rattle.tm_template.proofs.Loops.{char_read}
 use Rattle.tm_template.proofs.captures.group_of.Goals as goal
 
 -- the number with one digit more
-one_more : (ds : List ℕ) (i c n v : ℕ) → i < length ds → c ≡ get_or ds i 0 → n ≡ digits_value 10 (take i ds) → v ≡ digit_value c → 10 * n + v ≡ digits_value 10 (take (i + 1) ds)
+one_more : (ds : List ℕ) (i c n v : ℕ) → i < length ds → c ≡ get_or ds i c → n ≡ digits_value 10 (take i ds) → v ≡ digit_value c → 10 * n + v ≡ digits_value 10 (take (i + 1) ds)
 one_more ds i c n v lt is number value =
     let more = digits_value_more 10 ds i lt in
-    let here : v ≡ digit_value (get_or ds i 0) = value ∙ ap digit_value is in
+    let here : v ≡ digit_value (get_or ds i 0) = value ∙ ap digit_value (sym (char_read ds i c lt is)) in
     omega (arith, more, here, number)
 
 pub returns-then-number-groups : goal.returns-then-number-groups
