@@ -1,6 +1,6 @@
 -- The two forms of references: what stands at the front is what is spelled there.
-use Rattle.std.proofs.Common.{◌≡◌, ◌≢◌, ℕ, ◌<◌, Bool, true, false, cond, List, [], ◌∷◌, ◌++◌, length, take, drop, Option, Some, None, refl, sym, ap, ◌∙◌, subst, inl, inr, ◌⊎◌, arith, append_assoc}
-use Rattle.std.specs.Prelude.{◌==◌, nat_eq, codes}
+use Rattle.std.proofs.Common.{◌≡◌, ◌≢◌, ℕ, ◌<◌, Bool, true, false, cond, List, [], ◌∷◌, ◌++◌, length, drop, Option, Some, None, refl, sym, ap, ◌∙◌, subst, inl, inr, ◌⊎◌, arith, append_assoc}
+use Rattle.std.specs.Prelude.{◌==◌, nat_eq}
 use Rattle.std.specs.List.{list_all, starts_with}
 use Rattle.std.specs.Char.{is_ascii_digit}
 use Rattle.std.proofs.lemmas.Bool.{cases_Bool, eqb-true, and_parts}
@@ -111,14 +111,14 @@ closed : (u : List ℕ) (m : Manner) → manner_at u ≡ Some m → Closed u m
 unfolding manner_at
 closed u m e = elim (chosen (starts_with nat_eq u (manner_text Downcase)) (Some Downcase) (cond (starts_with nat_eq u (manner_text Upcase)) (Some Upcase) None) (Some m) e) [
   | inl down ↦
-    let is : Downcase ≡ m = let h = down.1 in cc in
-    let found : Closed u Downcase = record { rest = drop 11 u; whole = starts_whole u (manner_text Downcase) down.0; braces = λ ds. refl; ends = λ t. tt } in
-    subst (Closed u) is found
+      let is : Downcase ≡ m = let h = down.1 in cc in
+      let found : Closed u Downcase = record { rest = drop 11 u; whole = starts_whole u (manner_text Downcase) down.0; braces = λ ds. refl; ends = λ t. tt } in
+      subst (Closed u) is found
   | inr other ↦ elim (chosen (starts_with nat_eq u (manner_text Upcase)) (Some Upcase) None (Some m) other.1) [
     | inl up ↦
-      let is : Upcase ≡ m = let h = up.1 in cc in
-      let found : Closed u Upcase = record { rest = drop 9 u; whole = starts_whole u (manner_text Upcase) up.0; braces = λ ds. refl; ends = λ t. tt } in
-      subst (Closed u) is found
+        let is : Upcase ≡ m = let h = up.1 in cc in
+        let found : Closed u Upcase = record { rest = drop 9 u; whole = starts_whole u (manner_text Upcase) up.0; braces = λ ds. refl; ends = λ t. tt } in
+        subst (Closed u) is found
     | inr none ↦ absurd (let h : None ≡ Some m = none.1 in cc)
   ]
 ]
@@ -137,7 +137,7 @@ braced_found t r e =
     let found : Found name_form (36 ∷ 123 ∷ t) (reference (digits_of t) m) = record {
       rest = c.rest;
       whole = ap (λ u. 36 ∷ 123 ∷ u) ((cut t).whole ∙ ap (λ u. digits_of t ++ u) (sym (behind t) ∙ c.whole) ∙ sym (append_assoc (digits_of t) (manner_text m) c.rest))
-        ∙ ap (λ u. u ++ c.rest) (sym (c.braces (digits_of t)));
+          ∙ ap (λ u. u ++ c.rest) (sym (c.braces (digits_of t)));
       stands = record { case = refl; digits = is.1; ends = c.ends c.rest };
     } in
     subst (Found name_form (36 ∷ 123 ∷ t)) (sym is.0) found

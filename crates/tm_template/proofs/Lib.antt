@@ -3,3 +3,4 @@ pub mod Forms
 pub mod Pieces
 pub mod Loops
 pub mod Words
+pub mod Alone

@@ -1,14 +1,14 @@
 -- One piece more: what the loops over a text's pieces keep.
-use Rattle.std.proofs.Common.{◌≡◌, ℕ, ◌+◌, ◌-◌, ◌<◌, ◌≤◌, List, [], ◌∷◌, ◌++◌, length, take, drop, get_or, Option, Some, None, refl, sym, ap, ◌∙◌, subst, arith, append_assoc, append-nil}
+use Rattle.std.proofs.Common.{◌≡◌, ℕ, ◌+◌, ◌-◌, ◌<◌, ◌≤◌, List, ◌∷◌, ◌++◌, length, take, drop, get_or, Option, Some, None, refl, sym, ap, ◌∙◌, subst, arith, append_assoc, append-nil}
 use Rattle.std.specs.Prelude.{flat_map, slice_get}
 use Rattle.std.proofs.lemmas.List.{take_all, drop_all, drop_more, drop-drop, length-drop, length-append}
 use Rattle.std.proofs.lemmas.Option.{slice_get_read, get_or_from_slice_get}
 use Rattle.std.proofs.Math.Seq.{take-append_seam}
 use Rattle.tm_onig_search.specs.Find.{AreWithin}
 use Rattle.tm_onig_search.specs.Outcomes.{Caps}
-use Rattle.tm_template.specs.References.{Reference, Piece, Plain, Refers, Form, piece_text, piece_or, pieces_behind, pieces}
+use Rattle.tm_template.specs.References.{Reference, Piece, Form, piece_text, piece_or, pieces_behind, pieces}
 use Rattle.tm_template.specs.Captured.{IsSpanWithin}
-use Rattle.tm_template.proofs.Forms.{Found, IsForm}
+use Rattle.tm_template.proofs.Forms.{IsForm}
 use Rattle.tm_template.proofs.Pieces.{pieces-front, piece_some, piece_whole}
 
 -- the character that was read, whatever stands for one past the end
@@ -50,16 +50,16 @@ module _ (form : Form) (is : IsForm form) (give : Piece → List ℕ) where
 
   pub within_text : (text : List ℕ) (at c : ℕ) → at < length text → c ≡ get_or text at c → at + width_here text at c ≤ length text
   within_text text at c lt read =
-    let e = rest_here text at c lt read in
-    let u = drop at text in
-    let o = form.at u in
-    let whole : piece_text form (piece_or c o) ++ drop (length (piece_text form (piece_or c o))) (c ∷ drop (at + 1) text) ≡ c ∷ drop (at + 1) text =
-        piece_whole form is c (drop (at + 1) text) o (ap form.at (sym e)) in
-    let sum = ap length whole in
-    let parts = length-append (piece_text form (piece_or c o)) (drop (length (piece_text form (piece_or c o))) (c ∷ drop (at + 1) text)) in
-    let long = ap length e in
-    let left = length-drop at text in
-    omega (arith, sum, parts, long, left, lt)
+      let e = rest_here text at c lt read in
+      let u = drop at text in
+      let o = form.at u in
+      let whole : piece_text form (piece_or c o) ++ drop (length (piece_text form (piece_or c o))) (c ∷ drop (at + 1) text) ≡ c ∷ drop (at + 1) text =
+      piece_whole form is c (drop (at + 1) text) o (ap form.at (sym e)) in
+      let sum = ap length whole in
+      let parts = length-append (piece_text form (piece_or c o)) (drop (length (piece_text form (piece_or c o))) (c ∷ drop (at + 1) text)) in
+      let long = ap length e in
+      let left = length-drop at text in
+      omega (arith, sum, parts, long, left, lt)
 
   pub width_some : (text : List ℕ) (at c : ℕ) → 0 < width_here text at c
   width_some text at c = piece_some form is c (form.at (drop at text))
@@ -72,16 +72,16 @@ module _ (form : Form) (is : IsForm form) (give : Piece → List ℕ) where
   front_of u c t e = subst (λ v. pieces form v ≡ piece_or c (form.at v) ∷ pieces form (drop (length (piece_text form (piece_or c (form.at v)))) v)) (sym e) (pieces-front form is c t)
 
   pub given_next : (text : List ℕ) (at c : ℕ) → at < length text → c ≡ get_or text at c →
-    given_from text at ≡ give (piece_here text at c) ++ given_from text (at + width_here text at c)
+      given_from text at ≡ give (piece_here text at c) ++ given_from text (at + width_here text at c)
   given_next text at c lt read =
-    ap (flat_map give) (front_of (drop at text) c (drop (at + 1) text) (rest_here text at c lt read))
-    ∙ ap (λ v. give (piece_here text at c) ++ flat_map give (pieces form v)) (drop-drop (width_here text at c) at text)
+      ap (flat_map give) (front_of (drop at text) c (drop (at + 1) text) (rest_here text at c lt read))
+      ∙ ap (λ v. give (piece_here text at c) ++ flat_map give (pieces form v)) (drop-drop (width_here text at c) at text)
 
   -- what was given, and what is left to give, are the same with one piece more
   pub given_more : (text old new : List ℕ) (at c w : ℕ) → at < length text → c ≡ get_or text at c → w ≡ width_here text at c → new ≡ old ++ give (piece_here text at c) →
-    new ++ given_from text (at + w) ≡ old ++ given_from text at
+      new ++ given_from text (at + w) ≡ old ++ given_from text at
   given_more text old new at c w lt read width added =
-    ap (λ k. new ++ given_from text (at + k)) width
-    ∙ ap (λ u. u ++ given_from text (at + width_here text at c)) added
-    ∙ append_assoc old (give (piece_here text at c)) (given_from text (at + width_here text at c))
-    ∙ ap (λ u. old ++ u) (sym (given_next text at c lt read))
+      ap (λ k. new ++ given_from text (at + k)) width
+      ∙ ap (λ u. u ++ given_from text (at + width_here text at c)) added
+      ∙ append_assoc old (give (piece_here text at c)) (given_from text (at + width_here text at c))
+      ∙ ap (λ u. old ++ u) (sym (given_next text at c lt read))

@@ -1,10 +1,9 @@
 -- The pieces of a text.
-use Rattle.std.proofs.Common.{◌≡◌, ◌≢◌, ℕ, zero, suc, ◌+◌, ◌-◌, ◌<◌, Bool, true, false, List, [], ◌∷◌, ◌++◌, length, take, drop, get_or, Option, Some, None, refl, sym, ap, ◌∙◌, subst, arith, append_assoc, add-one}
-use Rattle.std.specs.Prelude.{flat_map, ⊤}
-use Rattle.std.proofs.Math.Seq.{drop-append_seam, take-append_seam, drop-cons}
+use Rattle.std.proofs.Common.{◌≡◌, ℕ, zero, suc, ◌-◌, ◌<◌, List, [], ◌∷◌, ◌++◌, length, drop, Option, Some, None, refl, sym, ap, ◌∙◌, subst, arith}
+use Rattle.std.proofs.Math.Seq.{drop-append_seam}
 use Rattle.tm_template.specs.References.{Reference, Piece, Plain, Refers, Form, piece_text, piece_or, pieces_behind, pieces}
-use Rattle.tm_template.specs.Laws.{AreDigits, StandsBefore, BeginsNone, AreRead, spelled}
-use Rattle.tm_template.proofs.Forms.{Found, IsForm}
+use Rattle.tm_template.specs.Laws.{StandsBefore, BeginsNone, AreRead, spelled}
+use Rattle.tm_template.proofs.Forms.{IsForm}
 
 -- characters are passed over
 pub pieces_behind-drop : (form : Form) (k : ℕ) (t : List ℕ) → pieces_behind form k t ≡ pieces form (drop k t)
@@ -79,7 +78,7 @@ none_found : (form : Form) → IsForm form → (t : List ℕ) (o : Option Refere
 none_found form is t None e none = refl
 none_found form is t (Some r) e none = let f = is.found t r e in absurd (none r f.rest f.stands.digits f.whole)
 
-pieces_plain : (form : Form) → IsForm form → (c : ℕ) (t : List ℕ) → form.at (c ∷ t) ≡ None → pieces form (c ∷ t) ≡ Plain c ∷ pieces form t
+pub pieces_plain : (form : Form) → IsForm form → (c : ℕ) (t : List ℕ) → form.at (c ∷ t) ≡ None → pieces form (c ∷ t) ≡ Plain c ∷ pieces form t
 pieces_plain form is c t e = pieces-front form is c t ∙ rw e refl
 
 pieces_refers : (form : Form) → IsForm form → (r : Reference) (s rest : List ℕ) → form.spelling r ≡ s → form.at (s ++ rest) ≡ Some r → pieces form (s ++ rest) ≡ Refers r ∷ pieces form rest

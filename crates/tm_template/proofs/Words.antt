@@ -1,11 +1,13 @@
 -- The words of a text, as they are cut off one after the other.
-use Rattle.std.proofs.Common.{◌≡◌, ℕ, ◌+◌, ◌-◌, ◌<◌, ◌≤◌, Bool, true, false, List, [], ◌∷◌, ◌++◌, length, take, drop, get_or, refl, sym, ap, ◌∙◌, subst, arith, append_assoc, append-nil, All}
-use Rattle.std.specs.Prelude.{filter}
-use Rattle.std.specs.List.{slice_range, slice_split}
+use Rattle.std.proofs.Common.{◌≡◌, refl, not, inl, inr, ℕ, ◌+◌, ◌-◌, ◌<◌, ◌≤◌, true, false, List, [], ◌∷◌, ◌++◌, length, take, drop, get_or, sym, ap, ◌∙◌, subst, arith, All}
+use Rattle.std.specs.Prelude.{filter, flat_map}
+use Rattle.std.specs.List.{slice_range, slice_split, onto_first, list_any, AllByRecursion}
+use Rattle.std.proofs.lemmas.Bool.{cases_Bool}
 use Rattle.std.proofs.lemmas.List.{drop_more, drop-drop, take-append-drop, take_all, take_more, get_or-drop, length-drop}
-use Rattle.std.proofs.lemmas.List.Elements.{All-push, filter-append}
+use Rattle.std.proofs.lemmas.List.Elements.{All-push, All-from_recursion, filter-append}
 use Rattle.std.proofs.lemmas.List.Splits.{slice_split_at, slice_split_none}
 use Rattle.tm_template.specs.Names.{is_blank, is_filled, words_of}
+use Rattle.tm_template.specs.Laws.{IsName, AreWords}
 
 -- a run of characters other than the space
 abbrev pub IsRun : List ℕ → Type 0
@@ -52,3 +54,52 @@ pub tail_run : (text : List ℕ) (start at : ℕ) → length text ≤ at → IsR
 tail_run text start at le run =
     let long = length-drop start text in
     subst IsRun (take_all (at - start) (drop start text) (omega (arith, long, le))) run
+
+-- a word without spaces
+abbrev pub HasNone : List ℕ → Type 0
+HasNone word = list_any is_blank word ≡ false
+
+none_more : (c : ℕ) (ws : List (List ℕ)) → is_blank c ≡ false → AllByRecursion HasNone ws → AllByRecursion HasNone (onto_first c ws)
+none_more c [] other all = (rw other refl, tt)
+none_more c (w ∷ ws) other all = (rw other all.0, all.1)
+
+parts_none : (text : List ℕ) → AllByRecursion HasNone (slice_split is_blank text)
+parts_none [] = (refl, tt)
+parts_none (c ∷ t) = elim (cases_Bool (is_blank c)) [
+  | inl blank ↦ rw blank (refl, parts_none t)
+  | inr other ↦ rw other (none_more c (slice_split is_blank t) other (parts_none t))
+]
+
+-- what is kept of words without spaces are names
+kept_names : (ws : List (List ℕ)) → AllByRecursion HasNone ws → AllByRecursion IsName (filter is_filled ws)
+kept_names [] all = tt
+kept_names (w ∷ ws) all = elim (cases_Bool (is_filled w)) [
+  | inl some ↦ rw some (record { some = some; no_space = all.0 }, kept_names ws all.1)
+  | inr none ↦ rw none (kept_names ws all.1)
+]
+
+-- words without characters add nothing
+kept_all : (ws : List (List ℕ)) → flat_map (λ w. w) (filter is_filled ws) ≡ flat_map (λ w. w) ws
+kept_all [] = refl
+kept_all ([] ∷ ws) = kept_all ws
+kept_all ((c ∷ w) ∷ ws) = rw (filled_is c w) (ap (λ u. (c ∷ w) ++ u) (kept_all ws))
+  where
+    filled_is : (c : ℕ) (w : List ℕ) → is_filled (c ∷ w) ≡ true
+    filled_is c w = grind arith
+
+onto_all : (c : ℕ) (ws : List (List ℕ)) → flat_map (λ w. w) (onto_first c ws) ≡ c ∷ flat_map (λ w. w) ws
+onto_all c [] = refl
+onto_all c (w ∷ ws) = refl
+
+parts_all : (text : List ℕ) → flat_map (λ w. w) (slice_split is_blank text) ≡ filter (λ c. not (is_blank c)) text
+parts_all [] = refl
+parts_all (c ∷ t) = elim (cases_Bool (is_blank c)) [
+  | inl blank ↦ rw blank (parts_all t)
+  | inr other ↦ rw other (onto_all c (slice_split is_blank t) ∙ ap (λ u. c ∷ u) (parts_all t))
+]
+
+pub are_words : (text : List ℕ) → AreWords text
+are_words text = record {
+  names = All-from_recursion IsName (words_of text) (kept_names (slice_split is_blank text) (parts_none text));
+  all = kept_all (slice_split is_blank text) ∙ parts_all text;
+}

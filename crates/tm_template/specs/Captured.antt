@@ -3,7 +3,6 @@ use Rattle.std.specs.Prelude.{ℕ, ◌≤◌, List, Option, Some, None, slice_ge
 use Rattle.std.specs.List.{slice_range}
 use Rattle.std.specs.Str.Parse.{digits_value}
 use Rattle.tm_onig_search.specs.Outcomes.{Caps}
-use Rattle.tm_template.specs.References.{Reference}
 
 -- The group of a reference: none beyond the groups of the pattern, and an unset one is there.
 abbrev pub group_of : Caps → List ℕ → Option (Option (ℕ × ℕ))

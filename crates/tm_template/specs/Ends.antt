@@ -5,7 +5,7 @@ use Rattle.std.specs.Char.{is_ascii_digit}
 use Rattle.tm_onig_class.specs.declared.listed.Listed.TheVariants.{Space}
 use Rattle.tm_onig_class.specs.Listed.{in_listed}
 use Rattle.tm_onig_search.specs.Outcomes.{Caps}
-use Rattle.tm_template.specs.References.{Reference, Piece, Plain, Refers, end_form, pieces}
+use Rattle.tm_template.specs.References.{Piece, Plain, Refers, end_form, pieces}
 use Rattle.tm_template.specs.Captured.{captured, group_of}
 
 -- The characters that mean something in a pattern.

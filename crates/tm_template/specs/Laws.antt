@@ -1,11 +1,13 @@
 -- Laws about the pieces of a text: how they are found is determined by how they are spelled.
-use Rattle.std.specs.Prelude.{◌≡◌, ◌≢◌, ℕ, Bool, true, false, List, [], ◌∷◌, ◌++◌, flat_map, ⊤, IsTrue}
-use Rattle.std.specs.List.{list_all}
+use Rattle.std.specs.Prelude.{◌≡◌, ◌≢◌, ℕ, true, false, not, List, [], ◌∷◌, ◌++◌, flat_map, filter, All, ⊤}
+use Rattle.std.specs.List.{list_all, list_any}
 use Rattle.std.specs.Char.{is_ascii_digit}
 use Rattle.tm_template.specs.declared.references.Manner.{Manner}
 use Rattle.tm_template.specs.declared.references.Manner.TheVariants.{AsCaptured, Downcase, Upcase}
-use Rattle.tm_template.specs.References.{Reference, Piece, Plain, Refers, Form, piece_text, pieces}
-use Rattle.tm_template.specs.Ends.{begins_digit}
+use Rattle.tm_template.specs.References.{Reference, Piece, Plain, Refers, Form, piece_text}
+use Rattle.tm_onig_search.specs.Outcomes.{Caps}
+use Rattle.tm_template.specs.Ends.{begins_digit, has_reference, resolved}
+use Rattle.tm_template.specs.Names.{is_blank, is_filled, words_of}
 
 -- One or more digits.
 pub record AreDigits (ds : List ℕ) : Type 0 where
@@ -37,3 +39,17 @@ abbrev pub AreRead : Form → List Piece → Type 0
 AreRead form [] = ⊤
 AreRead form (Plain c ∷ ps) = BeginsNone form (c ∷ spelled form ps) × AreRead form ps
 AreRead form (Refers r ∷ ps) = StandsBefore form r (spelled form ps) × AreRead form ps
+
+-- A text that refers to no group stays as it is.
+abbrev pub StaysAlone : List ℕ → List ℕ → Caps → Type 0
+StaysAlone text line caps = has_reference text ≡ false → resolved text line caps ≡ text
+
+-- A name: at least one character, and no space.
+pub record IsName (name : List ℕ) : Type 0 where
+  pub some : is_filled name ≡ true
+  pub no_space : list_any is_blank name ≡ false
+
+-- The words are names, and have all characters of the text but the spaces, in order.
+pub record AreWords (text : List ℕ) : Type 0 where
+  pub names : All IsName (words_of text)
+  pub all : flat_map (λ word. word) (words_of text) ≡ filter (λ c. not (is_blank c)) text

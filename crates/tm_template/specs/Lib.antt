@@ -3,3 +3,4 @@ pub mod Captured
 pub mod Names
 pub mod Ends
 pub mod Laws
+pub mod Rows

@@ -13,10 +13,7 @@ fn value_of(digit: char) -> usize
 }
 
 /// The group with a number in decimal digits, however great: none where the pattern has no such group.
-pub(crate) fn group_of(
-    groups: &[Option<(u32, u32)>],
-    digits: &[char],
-) -> Option<Option<(u32, u32)>>
+pub(crate) fn group_of(groups: &[Option<(u32, u32)>], digits: &[char]) -> Option<Option<(u32, u32)>>
     requires { list_all is_ascii_digit digits.now ≡ true }
     ensures { result ≡ group_of groups.now digits.now }
 {

@@ -126,12 +126,7 @@ pub fn has_references(text: &Name) -> bool
 /// backslashes and a digit, the second is the reference's.
 ///
 /// The groups are in characters of the line, as a search of it gives them.
-pub fn resolve(
-    alloc: Global,
-    text: &Name,
-    line: &Line,
-    caps: &Caps,
-) -> Result<Name, OutOfMemory>
+pub fn resolve(alloc: Global, text: &Name, line: &Line, caps: &Caps) -> Result<Name, OutOfMemory>
     requires { AreWithin (length line.now) caps.now }
     ensures { IfOk result (λ end. end ≡ resolved text.now line.now caps.now) }
 {

@@ -1,7 +1,9 @@
 //! Laws about the definitions, as functions that do nothing.
 ghost use Rattle.std.specs.Prelude.{◌≡◌, ℕ, List};
+ghost use Rattle.tm_onig_search.specs.Outcomes.{Caps};
 ghost use Rattle.tm_template.specs.References.{Piece, Form, name_form, end_form, pieces};
-ghost use Rattle.tm_template.specs.Laws.{spelled, AreRead};
+ghost use Rattle.tm_template.specs.Laws.{spelled, AreRead, StaysAlone, AreWords};
+ghost use Rattle.tm_template.specs.Rows.{Rows};
 
 /// Law: the pieces of a template are spelled as the template, each reference is as long as it can be,
 /// and no character that stands for itself begins one; and no other pieces are so.
@@ -16,4 +18,19 @@ pub fn end_pieces()
     ensures spelled { (text : List ℕ) → spelled end_form (pieces end_form text) ≡ text }
     ensures read { (text : List ℕ) → AreRead end_form (pieces end_form text) }
     ensures only { (ps : List Piece) → AreRead end_form ps → pieces end_form (spelled end_form ps) ≡ ps }
+{}
+
+/// Law: the text of an end that refers to no group stays as it is.
+pub fn ends_alone()
+    ensures { (text line : List ℕ) (caps : Caps) → StaysAlone text line caps }
+{}
+
+/// Law: the words of a text are names without spaces, and have all its other characters in order.
+pub fn words()
+    ensures { (text : List ℕ) → AreWords text }
+{}
+
+/// Law: some answers, worked out by the definitions.
+pub fn worked_answers()
+    ensures { Rows }
 {}

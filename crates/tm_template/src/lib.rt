@@ -18,7 +18,11 @@
 #![tactic(auto)]
 
 mod captures;
+#[cfg(test)]
+mod cases;
 pub mod ends;
 pub mod laws;
 pub mod names;
 pub mod references;
+#[cfg(test)]
+mod tests;

@@ -1,4 +1,4 @@
-use Rattle.std.proofs.Common.{◌≡◌, ◌+◌, ◌≤◌, ◌<◌, ◌++◌, length, drop, ◌∙◌, subst, arith}
+use Rattle.std.proofs.Common.{◌≡◌, ◌++◌, length, ◌∙◌, subst, arith}
 use Rattle.tm_template.specs.Ends.{piece_end}
 use Rattle.tm_template.specs.References.{end_form, end_reference, piece_or, piece_text}
 use Rattle.tm_template.proofs.Forms.{end_is_form}
@@ -20,7 +20,7 @@ pieces-preserved c =
     record {
       within = omega (arith, within, width);
       whole = given_more end_form end_is_form give c.args.text.now c.pieces.out.items c.put_piece.new.out.items c.pieces.at c.index-text-at.result c.in_ok-at.field-0
-        c.pieces-test.true c.index-text-at.is width given ∙ c.pieces.invariant.whole;
+          c.pieces-test.true c.index-text-at.is width given ∙ c.pieces.invariant.whole;
     }
 
 pub returns : goal.returns

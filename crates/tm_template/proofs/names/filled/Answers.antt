@@ -1,4 +1,4 @@
-use Rattle.std.proofs.Common.{◌≡◌, ◌+◌, ◌≤◌, ◌<◌, ◌++◌, length, drop, ◌∙◌, subst, arith}
+use Rattle.std.proofs.Common.{◌≡◌, ◌++◌, length, ◌∙◌, subst, arith}
 use Rattle.tm_template.specs.Names.{piece_name}
 use Rattle.tm_template.specs.References.{name_form, name_reference, piece_or, piece_text}
 use Rattle.tm_template.proofs.Forms.{name_is_form}
@@ -20,7 +20,7 @@ pieces-preserved c =
     record {
       within = omega (arith, within, width);
       whole = given_more name_form name_is_form give c.args.template.now c.pieces.out.items c.put_piece.new.out.items c.pieces.at c.index-template-at.result c.in_ok-at.field-0
-        c.pieces-test.true c.index-template-at.is width given ∙ c.pieces.invariant.whole;
+          c.pieces-test.true c.index-template-at.is width given ∙ c.pieces.invariant.whole;
     }
 
 pub returns : goal.returns

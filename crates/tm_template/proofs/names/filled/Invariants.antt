@@ -1,7 +1,5 @@
 use Rattle.std.proofs.Common.{◌≡◌, ◌++◌, ◌-◌, ◌≤◌, length, drop}
-use Rattle.std.specs.Prelude.{flat_map}
-use Rattle.tm_template.specs.Names.{piece_name, filled}
-use Rattle.tm_template.specs.References.{name_form, pieces}
+use Rattle.tm_template.specs.Names.{filled}
 use Rattle.tm_template.proofs.names.filled.Given as goal
 
 -- what is given so far and what is left give the whole

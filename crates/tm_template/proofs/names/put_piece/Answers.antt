@@ -1,8 +1,7 @@
-use Rattle.std.proofs.Common.{◌≡◌, ◌++◌, length, take, refl, sym, ap, ◌∙◌, Some}
+use Rattle.std.proofs.Common.{◌++◌, length, take, sym, ap, ◌∙◌}
 use Rattle.std.specs.Str.Parse.{digits_value}
-use Rattle.tm_template.specs.Captured.{IsSpanWithin, group_of}
 use Rattle.tm_template.specs.Names.{reference_name, piece_name}
-use Rattle.tm_template.specs.References.{reference, name_form, name_reference, name_spelling, piece_or}
+use Rattle.tm_template.specs.References.{reference, name_form, name_spelling, piece_or}
 use Rattle.tm_template.proofs.Forms.{name_is_form}
 use Rattle.tm_template.proofs.Loops.{spelling_front, span_within}
 use Rattle.tm_template.proofs.names.put_piece.Goals as goal

@@ -1,4 +1,4 @@
-use Rattle.std.proofs.Common.{◌≡◌, ℕ, ◌+◌, ◌-◌, ◌≤◌, ◌<◌, Bool, true, false, List, [], ◌∷◌, ◌++◌, length, take, drop, get_or, refl, sym, ap, ◌∙◌, subst, arith, append_assoc, append-nil}
+use Rattle.std.proofs.Common.{◌≡◌, ℕ, ◌+◌, ◌≤◌, ◌<◌, true, false, List, [], ◌∷◌, ◌++◌, length, drop, get_or, sym, ap, ◌∙◌, arith, append_assoc}
 use Rattle.std.specs.Prelude.{filter}
 use Rattle.std.specs.List.{slice_range}
 use Rattle.std.proofs.lemmas.Bool.{eq-eqb, ne_eqb}
@@ -22,8 +22,8 @@ kept_word text start at c words more lt read is k added =
       order = omega arith;
       run = no_run text (at + 1);
       whole = ap (λ ws. ws ++ words_of (drop (at + 1) text)) added
-        ∙ append_assoc words (filter is_filled (slice_range text start at ∷ [])) (words_of (drop (at + 1) text))
-        ∙ ap (λ ws. words ++ ws) (sym (word_ends text start at k.order lt blank k.run)) ∙ k.whole;
+          ∙ append_assoc words (filter is_filled (slice_range text start at ∷ [])) (words_of (drop (at + 1) text))
+          ∙ ap (λ ws. words ++ ws) (sym (word_ends text start at k.order lt blank k.run)) ∙ k.whole;
     }
 
 kept_run : (text : List ℕ) (start at c : ℕ) (words : List (List ℕ)) → at < length text → c ≡ get_or text at c → (c ≡ 32 → ⊥) → Kept text start at words → Kept text start (at + 1) words
@@ -37,13 +37,13 @@ text-preserved c =
     let k : Kept c.args.text.now c.text.start c.text.at c.text.words.items = record { order = c.text.invariant.order; run = c.text.invariant.run; whole = c.text.invariant.whole } in
     elim c.if-text-at-eq32.branch [
       | then-text-at-eq32+in_ok-put_word w ↦
-        let more = kept_word c.args.text.now c.text.start c.text.at c.index-text-at.result c.text.words.items w.put_word.new.words.items c.text-test.true c.index-text-at.is w.if-text-at-eq32.true k w.in_ok-put_word.ensures in
-        let at : Kept c.args.text.now c.if-text-at-eq32.start (c.text.at + 1) c.if-text-at-eq32.words.items = rw (w.start-is, w.words-is) more in
-        record { order = at.order; run = at.run; whole = at.whole }
+          let more = kept_word c.args.text.now c.text.start c.text.at c.index-text-at.result c.text.words.items w.put_word.new.words.items c.text-test.true c.index-text-at.is w.if-text-at-eq32.true k w.in_ok-put_word.ensures in
+          let at : Kept c.args.text.now c.if-text-at-eq32.start (c.text.at + 1) c.if-text-at-eq32.words.items = rw (w.start-is, w.words-is) more in
+          record { order = at.order; run = at.run; whole = at.whole }
       | else-text-at-eq32 w ↦
-        let more = kept_run c.args.text.now c.text.start c.text.at c.index-text-at.result c.text.words.items c.text-test.true c.index-text-at.is w.if-text-at-eq32.false k in
-        let at : Kept c.args.text.now c.if-text-at-eq32.start (c.text.at + 1) c.if-text-at-eq32.words.items = rw (w.start-is, w.words-is) more in
-        record { order = at.order; run = at.run; whole = at.whole }
+          let more = kept_run c.args.text.now c.text.start c.text.at c.index-text-at.result c.text.words.items c.text-test.true c.index-text-at.is w.if-text-at-eq32.false k in
+          let at : Kept c.args.text.now c.if-text-at-eq32.start (c.text.at + 1) c.if-text-at-eq32.words.items = rw (w.start-is, w.words-is) more in
+          record { order = at.order; run = at.run; whole = at.whole }
     ]
 
 pub returns : goal.returns

@@ -1,4 +1,4 @@
-use Rattle.std.proofs.Common.{◌≡◌, ◌++◌, ◌≤◌, false, length, drop, All}
+use Rattle.std.proofs.Common.{◌≡◌, ◌++◌, ◌≤◌, false, drop, All}
 use Rattle.std.specs.List.{slice_range}
 use Rattle.tm_template.specs.Names.{words_of, is_blank}
 use Rattle.tm_template.proofs.names.words_of.Given as goal
