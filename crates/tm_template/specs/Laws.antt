@@ -1,10 +1,10 @@
 -- Laws about the pieces of a text: how they are found is determined by how they are spelled.
-use Rattle.std.specs.Prelude.{◌≡◌, ◌≢◌, ℕ, true, false, not, List, [], ◌∷◌, ◌++◌, flat_map, filter, All, ⊤}
+use Rattle.std.specs.Prelude.{◌≡◌, Bool, ◌≢◌, ℕ, true, false, not, List, [], ◌∷◌, ◌++◌, flat_map, filter, All, ⊤}
 use Rattle.std.specs.List.{list_all, list_any}
 use Rattle.std.specs.Char.{is_ascii_digit}
 use Rattle.tm_template.specs.declared.references.Manner.{Manner}
 use Rattle.tm_template.specs.declared.references.Manner.TheVariants.{AsCaptured, Downcase, Upcase}
-use Rattle.tm_template.specs.References.{Reference, Piece, Plain, Refers, Form, piece_text}
+use Rattle.tm_template.specs.References.{Reference, Piece, Plain, Refers, Form, end_form, piece_text, pieces}
 use Rattle.tm_onig_search.specs.Outcomes.{Caps}
 use Rattle.tm_template.specs.Ends.{begins_digit, has_reference, resolved}
 use Rattle.tm_template.specs.Names.{is_blank, is_filled, words_of}
@@ -39,6 +39,15 @@ abbrev pub AreRead : Form → List Piece → Type 0
 AreRead form [] = ⊤
 AreRead form (Plain c ∷ ps) = BeginsNone form (c ∷ spelled form ps) × AreRead form ps
 AreRead form (Refers r ∷ ps) = StandsBefore form r (spelled form ps) × AreRead form ps
+
+-- A piece that is a reference.
+abbrev pub is_reference : Piece → Bool
+is_reference (Plain c) = false
+is_reference (Refers r) = true
+
+-- A text refers to a group where one of its pieces does.
+abbrev pub IsReferring : List ℕ → Type 0
+IsReferring text = has_reference text ≡ list_any is_reference (pieces end_form text)
 
 -- A text that refers to no group stays as it is.
 abbrev pub StaysAlone : List ℕ → List ℕ → Caps → Type 0

@@ -2,7 +2,7 @@
 ghost use Rattle.std.specs.Prelude.{◌≡◌, ℕ, List};
 ghost use Rattle.tm_onig_search.specs.Outcomes.{Caps};
 ghost use Rattle.tm_template.specs.References.{Piece, Form, name_form, end_form, pieces};
-ghost use Rattle.tm_template.specs.Laws.{spelled, AreRead, StaysAlone, AreWords};
+ghost use Rattle.tm_template.specs.Laws.{spelled, AreRead, IsReferring, StaysAlone, AreWords};
 ghost use Rattle.tm_template.specs.Rows.{Rows};
 
 /// Law: the pieces of a template are spelled as the template, each reference is as long as it can be,
@@ -20,9 +20,11 @@ pub fn end_pieces()
     ensures only { (ps : List Piece) → AreRead end_form ps → pieces end_form (spelled end_form ps) ≡ ps }
 {}
 
-/// Law: the text of an end that refers to no group stays as it is.
+/// Law: the text of an end refers to a group where one of its pieces does, and stays as it is where none
+/// does.
 pub fn ends_alone()
-    ensures { (text line : List ℕ) (caps : Caps) → StaysAlone text line caps }
+    ensures refers { (text : List ℕ) → IsReferring text }
+    ensures stays { (text line : List ℕ) (caps : Caps) → StaysAlone text line caps }
 {}
 
 /// Law: the words of a text are names without spaces, and have all its other characters in order.
