@@ -1,6 +1,8 @@
-ghost use Rattle.std.specs.Prelude.{◌≡◌, ◌<◌, length, slice_get, Some, IfOk, IsTrue};
+ghost use Rattle.std.specs.Prelude.{◌≡◌, ◌<◌, length, slice_get, Some, IfOk, IfSome, IsTrue};
 ghost use Rattle.tm_onig_search.specs.Find.{AreWithin};
 ghost use Rattle.tm_template.specs.Captured.{IsSpanWithin};
+ghost use Rattle.tm_template.specs.Ends.{resolved};
+ghost use Rattle.tm_template.specs.Names.{names_of};
 
 use crate::cases::{ALONE, CASES, DOTS, ENDS, ESCAPES, NUMBERS, PLAIN_NAMES, REFERRING, Row};
 use crate::ends::{has_references, resolve};
@@ -63,7 +65,9 @@ fn names_given(
     template: &Name,
     line: &Line,
     caps: &Caps,
-) -> Result<Option<ScopePath>, OutOfMemory> {
+) -> Result<Option<ScopePath>, OutOfMemory>
+    ensures { IfOk result (λ given. IfSome given (λ path. path ≡ names_of template.now line.now caps.now)) }
+{
     if are_within(line.as_slice().len(), caps.as_slice()) {
         Ok(Some(name_of(alloc, template, line, caps)?))
     } else {
@@ -71,13 +75,15 @@ fn names_given(
     }
 }
 
-/// The text of an end with what was captured.
+/// The text of an end with what was captured, or none where a group lies outside the line.
 fn end_given(
     alloc: Global,
     text: &Name,
     line: &Line,
     caps: &Caps,
-) -> Result<Option<Name>, OutOfMemory> {
+) -> Result<Option<Name>, OutOfMemory>
+    ensures { IfOk result (λ given. IfSome given (λ end. end ≡ resolved text.now line.now caps.now)) }
+{
     if are_within(line.as_slice().len(), caps.as_slice()) {
         Ok(Some(resolve(alloc, text, line, caps)?))
     } else {
