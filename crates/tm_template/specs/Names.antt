@@ -8,10 +8,11 @@ use Rattle.tm_template.specs.declared.references.Manner.TheVariants.{AsCaptured,
 use Rattle.tm_template.specs.References.{Piece, Plain, Refers, name_form, name_spelling, pieces}
 use Rattle.tm_template.specs.Captured.{captured, group_of}
 
--- Dots at the front of a captured text do not count.
+-- A dot.
 abbrev pub is_dot : ℕ → Bool
 is_dot c = c == 46
 
+-- Dots at the front of a captured text do not count.
 abbrev pub without_dots : List ℕ → List ℕ
 without_dots text = drop (prefix_len is_dot text) text
 
@@ -41,6 +42,7 @@ filled template line caps = flat_map (piece_name line caps) (pieces name_form te
 abbrev pub is_blank : ℕ → Bool
 is_blank c = c == 32
 
+-- The word has a character.
 abbrev pub is_filled : List ℕ → Bool
 is_filled word = not (length word == 0)
 

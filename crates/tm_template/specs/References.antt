@@ -10,6 +10,7 @@ pub record Reference : Type 0 where
   pub digits : List ℕ
   pub manner : Manner
 
+-- The same by its parts.
 abbrev pub reference : List ℕ → Manner → Reference
 reference digits manner = record { digits = digits; manner = manner }
 
@@ -64,15 +65,17 @@ unfoldable pub end_reference : List ℕ → Option Reference
 end_reference [] = None
 end_reference (c ∷ t) = if c == 92 then referring AsCaptured (digits_of t) else None
 
--- How a reference is spelled in a template: `$1`, `${1:/downcase}`, `${1:/upcase}`.
+-- How a reference with a case is spelled in a template: `${1:/downcase}`, `${1:/upcase}`.
 abbrev pub in_braces : Reference → List ℕ
 in_braces r = 36 ∷ 123 ∷ (r.digits ++ manner_text r.manner)
 
+-- The same where there may be no case: `$1`.
 abbrev pub spelled_as : Manner → Reference → List ℕ
 spelled_as AsCaptured r = 36 ∷ r.digits
 spelled_as Downcase r = in_braces r
 spelled_as Upcase r = in_braces r
 
+-- How a reference is spelled in a template.
 abbrev pub name_spelling : Reference → List ℕ
 name_spelling r = spelled_as r.manner r
 
@@ -87,14 +90,17 @@ pub record Form : Type 0 where
   pub spelling : Reference → List ℕ
   pub has : Manner → Bool
 
+-- The references of templates.
 abbrev pub name_form : Form
 name_form = record { at = name_reference; spelling = name_spelling; has = λ manner. true }
 
+-- No case is written.
 abbrev pub is_as_captured : Manner → Bool
 is_as_captured AsCaptured = true
 is_as_captured Downcase = false
 is_as_captured Upcase = false
 
+-- The references of ends, which have no case.
 abbrev pub end_form : Form
 end_form = record { at = end_reference; spelling = end_spelling; has = is_as_captured }
 

@@ -20,6 +20,7 @@ ten = Some (0, 2) ∷ Some (1, 2) ∷ None ∷ None ∷ None ∷ None ∷ None �
 abbrev pub all : ℕ → Caps
 all n = Some (0, n) ∷ Some (0, n) ∷ []
 
+-- some templates and ends with what they give
 pub record Rows : Type 0 where
   pub leading_dot : names_of (codes "k.$1 m") (codes ".x") (all 2) ≡ codes "k.x" ∷ codes "m" ∷ []
   pub beyond_stays : names_of (codes "$10") (codes "ab") second ≡ codes "$10" ∷ []
