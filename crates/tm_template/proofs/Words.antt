@@ -4,10 +4,10 @@ use Rattle.std.specs.Prelude.{filter, flat_map}
 use Rattle.std.specs.List.{slice_range, slice_split, onto_first, list_any, AllByRecursion}
 use Rattle.std.proofs.lemmas.Bool.{cases_Bool}
 use Rattle.std.proofs.lemmas.List.{drop_more, drop-drop, take-append-drop, take_all, take_more, get_or-drop, length-drop}
-use Rattle.std.proofs.lemmas.List.Elements.{All-push, All-from_recursion, filter-append}
-use Rattle.std.proofs.lemmas.List.Splits.{slice_split_at, slice_split_none}
+use Rattle.std.proofs.lemmas.List.Elements.{All-push, All-nil, All-cons, All-from_recursion, filter-append}
+use Rattle.std.proofs.lemmas.List.Splits.{slice_split_at, slice_split_none, slice_split-cons_yes, slice_split-cons_no}
 use Rattle.tm_template.specs.Names.{is_blank, is_filled, words_of}
-use Rattle.tm_template.specs.Laws.{IsName, AreWords}
+use Rattle.tm_template.specs.Laws.{IsName, AreWords, WordsAre}
 
 -- a run of characters other than the space
 abbrev pub IsRun : List ℕ → Type 0
@@ -102,4 +102,41 @@ pub are_words : (text : List ℕ) → AreWords text
 are_words text = record {
   names = All-from_recursion IsName (words_of text) (kept_names (slice_split is_blank text) (parts_none text));
   all = kept_all (slice_split is_blank text) ∙ parts_all text;
+}
+
+-- a character goes to the first of the parts, which there always is
+onto_front : (c : ℕ) (ws us : List (List ℕ)) → (ws ≡ [] → ⊥) → onto_first c (ws ++ us) ≡ onto_first c ws ++ us
+onto_front c [] us some = absurd (some refl)
+onto_front c (w ∷ ws) us some = refl
+
+onto_some : (c : ℕ) (ws : List (List ℕ)) → onto_first c ws ≡ [] → ⊥
+onto_some c [] e = absurd cc
+onto_some c (w ∷ ws) e = absurd cc
+
+parts_some : (text : List ℕ) → slice_split is_blank text ≡ [] → ⊥
+parts_some [] e = absurd cc
+parts_some (c ∷ t) e = elim (cases_Bool (is_blank c)) [
+  | inl blank ↦ let h : [] ∷ slice_split is_blank t ≡ [] = sym (slice_split-cons_yes is_blank c t blank) ∙ e in absurd cc
+  | inr other ↦ onto_some c (slice_split is_blank t) (sym (slice_split-cons_no is_blank c t other) ∙ e)
+]
+
+parts_parted : (before behind : List ℕ) → slice_split is_blank (before ++ 32 ∷ behind) ≡ slice_split is_blank before ++ slice_split is_blank behind
+parts_parted [] behind = refl
+parts_parted (c ∷ t) behind = elim (cases_Bool (is_blank c)) [
+  | inl blank ↦ rw blank (ap (λ ws. [] ∷ ws) (parts_parted t behind))
+  | inr other ↦ rw other (ap (λ ws. onto_first c ws) (parts_parted t behind) ∙ onto_front c (slice_split is_blank t) (slice_split is_blank behind) (parts_some t))
+]
+
+run_from_none : (word : List ℕ) → list_any is_blank word ≡ false → IsRun word
+run_from_none [] none = All-nil (λ c. is_blank c ≡ false)
+run_from_none (c ∷ w) none = elim (cases_Bool (is_blank c)) [
+  | inl blank ↦ absurd (let h : true ≡ false = sym (rw blank refl) ∙ none in cc)
+  | inr other ↦ All-cons (λ d. is_blank d ≡ false) c w other (run_from_none w (sym (rw other refl) ∙ none))
+]
+
+pub words_are : WordsAre
+words_are = record {
+  none = refl;
+  one = λ name is. last_word name (run_from_none name is.no_space) ∙ rw (is.some) refl;
+  parted = λ before behind. ap (λ ws. filter is_filled ws) (parts_parted before behind) ∙ filter-append is_filled (slice_split is_blank before) (slice_split is_blank behind);
 }

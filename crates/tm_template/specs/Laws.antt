@@ -62,3 +62,10 @@ pub record IsName (name : List ℕ) : Type 0 where
 pub record AreWords (text : List ℕ) : Type 0 where
   pub names : All IsName (words_of text)
   pub all : flat_map (λ word. word) (words_of text) ≡ filter (λ c. not (is_blank c)) text
+
+-- What the words of any text are: none without characters, a name is one word, and a space parts the
+-- words before it from those behind it.
+pub record WordsAre : Type 0 where
+  pub none : words_of [] ≡ []
+  pub one : (name : List ℕ) → IsName name → words_of name ≡ name ∷ []
+  pub parted : (before behind : List ℕ) → words_of (before ++ 32 ∷ behind) ≡ words_of before ++ words_of behind

@@ -2,7 +2,7 @@
 ghost use Rattle.std.specs.Prelude.{◌≡◌, ℕ, List};
 ghost use Rattle.tm_onig_search.specs.Outcomes.{Caps};
 ghost use Rattle.tm_template.specs.References.{Piece, Form, name_form, end_form, pieces};
-ghost use Rattle.tm_template.specs.Laws.{spelled, AreRead, IsReferring, StaysAlone, AreWords};
+ghost use Rattle.tm_template.specs.Laws.{spelled, AreRead, IsReferring, StaysAlone, WordsAre, AreWords};
 ghost use Rattle.tm_template.specs.Rows.{Rows};
 
 /// Law: the pieces of a template are spelled as the template, each reference is as long as it can be,
@@ -27,9 +27,11 @@ pub fn ends_alone()
     ensures stays { (text line : List ℕ) (caps : Caps) → StaysAlone text line caps }
 {}
 
-/// Law: the words of a text are names without spaces, and have all its other characters in order.
+/// Law: a name is one word, and a space parts the words before it from those behind it. So the words of
+/// a text are names without spaces, and have all its other characters in order.
 pub fn words()
-    ensures { (text : List ℕ) → AreWords text }
+    ensures determined { WordsAre }
+    ensures names { (text : List ℕ) → AreWords text }
 {}
 
 /// Law: some answers, worked out by the definitions.
