@@ -1,0 +1,13 @@
+use Rattle.tm_template.specs.References.{end_form}
+use Rattle.tm_template.proofs.Forms.{end_is_form}
+use Rattle.tm_template.proofs.Pieces.{spelled_behind, read_behind, pieces_again}
+use Rattle.tm_template.proofs.laws.end_pieces.Goals as goal
+
+pub returns-clause-spelled : goal.returns-clause-spelled
+returns-clause-spelled c t = spelled_behind end_form end_is_form 0 t
+
+pub returns-clause-read : goal.returns-clause-read
+returns-clause-read c t = read_behind end_form end_is_form 0 t
+
+pub returns-clause-only : goal.returns-clause-only
+returns-clause-only c ps are = pieces_again end_form end_is_form ps are
