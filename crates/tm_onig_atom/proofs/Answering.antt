@@ -1,5 +1,5 @@
 -- What reading gives is what the grammar says, answer by answer.
-use Rattle.std.proofs.Common.{◌≡◌, ℕ, ◌≤◌, List, Option, Some, None, Result, Ok, Err, IfOk, sym, ap, ◌∙◌, subst}
+use Rattle.std.proofs.Common.{◌≡◌, ℕ, ◌≤◌, List, Some, Result, Ok, Err, IfOk, sym, ap, ◌∙◌, subst}
 use Rattle.tm_onig_class.specs.Tree.{Tree}
 use Rattle.tm_onig_class.specs.Widths.{least_width}
 use Rattle.tm_onig_atom.specs.declared.options.Options.{Options}

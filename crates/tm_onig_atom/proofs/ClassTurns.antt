@@ -1,5 +1,5 @@
 -- One turn of the loop over a class's items.
-use Rattle.std.proofs.Common.{◌≡◌, ℕ, zero, suc, ◌+◌, ◌-◌, ◌<◌, ◌≤◌, Bool, true, false, not, ◌&&◌, List, [], ◌∷◌, ◌++◌, length, Option, Some, None, refl, sym, ap, ◌∙◌, subst, arith, length-append, append_assoc, append-nil, cond}
+use Rattle.std.proofs.Common.{◌≡◌, ℕ, zero, suc, ◌+◌, ◌-◌, ◌<◌, ◌≤◌, Bool, true, false, not, ◌&&◌, List, [], ◌∷◌, ◌++◌, length, Option, Some, None, refl, sym, ap, ◌∙◌, arith, length-append, append_assoc, append-nil, cond}
 use Rattle.std.specs.Prelude.{◌==◌}
 use Rattle.tm_onig_atom.specs.declared.fault.AtomFault.{AtomFault}
 use Rattle.tm_onig_atom.specs.declared.fault.AtomFault.TheVariants.{Unreadable, OutOfMemory}
@@ -8,9 +8,10 @@ use Rattle.regex_class.specs.Ranges.{Range as CharRange}
 use Rattle.tm_onig_atom.specs.Classes.{class_members}
 use Rattle.tm_onig_atom.specs.Escapes.{begins}
 use Rattle.tm_onig_atom.specs.Reading.{◌>>=◌, rest_of}
-use Rattle.tm_onig_atom.specs.ClassReading.{Body, Reader, front_at, part_at, closes_at, parts_at, parts_on, with_front, body_of, items_of, signed_at, highest, body_at}
+use Rattle.tm_onig_atom.specs.ClassReading.{Reader, front_at, part_at, closes_at, parts_at, parts_on, with_front, body_of, items_of, signed_at, highest, body_at}
 use Rattle.tm_onig_atom.specs.Views.{Fails}
-use Rattle.tm_onig_atom.proofs.ClassExact.{PartsRead, BodyRead, item_long, part_found, body_found, body_low, parts_low}
+use Rattle.tm_onig_atom.proofs.ClassItems.{PartsRead, BodyRead, item_long, part_found, body_found}
+use Rattle.tm_onig_atom.proofs.ClassExact.{body_low, parts_low}
 
 -- each class within takes a character, and so does each part
 abbrev AreShorter : Reader → Type 0

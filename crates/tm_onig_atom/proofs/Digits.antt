@@ -1,5 +1,5 @@
 -- Digits are read exactly as they are spelled.
-use Rattle.std.proofs.Common.{◌≡◌, ℕ, zero, suc, ◌+◌, ◌-◌, ◌*◌, ◌^◌, ◌<◌, ◌≤◌, Bool, true, false, ◌&&◌, cond, List, [], ◌∷◌, ◌++◌, length, Option, Some, None, refl, sym, ap, ◌∙◌, subst, inl, inr, ◌⊎◌, arith, append_assoc, le-leb, leb-true}
+use Rattle.std.proofs.Common.{◌≡◌, ℕ, zero, suc, ◌+◌, ◌-◌, ◌*◌, ◌^◌, ◌<◌, ◌≤◌, Bool, true, false, ◌&&◌, cond, List, [], ◌∷◌, ◌++◌, length, Some, None, refl, sym, ap, ◌∙◌, subst, inl, inr, arith, le-leb, leb-true}
 use Rattle.std.specs.Prelude.{◌==◌, nat_le, nat_lt}
 use Rattle.std.specs.List.{list_all}
 use Rattle.std.specs.Char.{is_digit, digit_value}
@@ -9,7 +9,7 @@ use Rattle.std.proofs.Math.Nat.{pow-suc, mul-le-mul_left}
 use Rattle.std.proofs.lemmas.Bool.Decides.{nat_tests}
 use Rattle.tm_onig_class.specs.Members.{IsChar, is_char}
 use Rattle.tm_onig_atom.specs.Escapes.{begins, begins_digit, AreDigits, EndsDigits}
-use Rattle.tm_onig_atom.specs.Reading.{digits_at, numbered, with_text, by_number, rest_of, closed_number, braced_at, hex_at}
+use Rattle.tm_onig_atom.specs.Reading.{digits_at, with_text, by_number, closed_number, braced_at, hex_at}
 use Rattle.tm_onig_atom.proofs.Texts.{chosen}
 
 -- no more

@@ -1,8 +1,7 @@
 -- An escape is read exactly as it is spelled.
-use Rattle.std.proofs.Common.{◌≡◌, ℕ, ◌≤◌, Bool, true, false, not, cond, List, [], ◌∷◌, ◌++◌, Option, Some, None, option_map, refl, sym, ap, ◌∙◌, subst, inl, inr, ◌⊎◌, arith, append_assoc}
+use Rattle.std.proofs.Common.{◌≡◌, ℕ, ◌≤◌, Bool, true, false, not, cond, List, [], ◌∷◌, ◌++◌, Option, Some, None, option_map, refl, sym, ap, ◌∙◌, subst, inl, inr, arith, append_assoc}
 use Rattle.std.specs.Prelude.{◌==◌}
 use Rattle.std.specs.List.{list_any}
-use Rattle.std.specs.Str.Parse.{digits_value}
 use Rattle.std.proofs.lemmas.Bool.{cases_Bool, eqb-true}
 use Rattle.std.proofs.lemmas.Bool.Decides.{nat_tests}
 use Rattle.tm_onig_class.specs.declared.names.Known.{Known}
@@ -14,7 +13,7 @@ use Rattle.tm_onig_atom.specs.declared.meanings.Named.{Named}
 use Rattle.tm_onig_atom.specs.declared.meanings.Meant.{Meant}
 use Rattle.tm_onig_atom.specs.declared.meanings.Meant.TheVariants.{Character, Members}
 use Rattle.tm_onig_atom.specs.Escapes.{begins, set_letter, is_no_char, escaped_char, Escape, Sign, Short, Hex, Braced, Unicode, Octal, Property, escape_head, escape_text, IsEscape, meant, meant_tree, escape_tree}
-use Rattle.tm_onig_atom.specs.Reading.{◌>>=◌, by_number, digits_at, hex_at, before, named_as, name_at, caret_at, property_at, as_char, sign_or, sign_meant, rest_of, meant_at, escape_at}
+use Rattle.tm_onig_atom.specs.Reading.{◌>>=◌, by_number, digits_at, hex_at, before, named_as, name_at, caret_at, property_at, as_char, sign_or, sign_meant, meant_at, escape_at}
 use Rattle.tm_onig_atom.proofs.Texts.{chosen, bind_ok, map_ok, differs, before_again, before_found}
 use Rattle.tm_onig_atom.proofs.Digits.{number_again, number_found, hex_again, braced_again, braced_found}
 

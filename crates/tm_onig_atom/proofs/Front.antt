@@ -1,18 +1,17 @@
 -- What stands at the front of a class's text is read exactly as it is spelled.
-use Rattle.std.proofs.Common.{◌≡◌, ℕ, ◌<◌, ◌≤◌, Bool, true, false, not, ◌&&◌, cond, List, [], ◌∷◌, ◌++◌, length, Option, Some, None, refl, sym, ap, ◌∙◌, subst, inl, inr, ◌⊎◌, arith, length-append, append_assoc}
+use Rattle.std.proofs.Common.{◌≡◌, ℕ, ◌≤◌, Bool, true, false, not, ◌&&◌, cond, List, [], ◌∷◌, ◌++◌, Option, Some, None, refl, sym, ap, ◌∙◌, subst, inl, inr, append_assoc}
 use Rattle.std.specs.Prelude.{◌==◌, nat_le}
-use Rattle.std.proofs.lemmas.Bool.{ne_eqb, eqb-true, le-leb, leb-true, and_left, and_right, and_parts, cases_Bool, both_ways}
-use Rattle.tm_onig_atom.specs.declared.meanings.Named.{Named}
+use Rattle.std.proofs.lemmas.Bool.{ne_eqb, eqb-true, le-leb, leb-true, and_parts, both_ways}
 use Rattle.tm_onig_atom.specs.declared.meanings.Meant.{Meant}
 use Rattle.tm_onig_atom.specs.declared.meanings.Meant.TheVariants.{Character, Members}
 use Rattle.tm_onig_atom.specs.declared.parts.Member.TheVariants as M
 use Rattle.tm_onig_atom.specs.declared.parts.Part.{Part}
-use Rattle.tm_onig_atom.specs.declared.parts.Part.TheVariants.{Adds, Meets, Inner}
+use Rattle.tm_onig_atom.specs.declared.parts.Part.TheVariants.{Adds, Meets}
 use Rattle.tm_onig_atom.specs.declared.parts.Front.{Front}
 use Rattle.tm_onig_atom.specs.declared.parts.Front.TheVariants as F
-use Rattle.tm_onig_atom.specs.Escapes.{begins, of_listed, Escape, escape_text, IsEscape, meant}
+use Rattle.tm_onig_atom.specs.Escapes.{begins, of_listed}
 use Rattle.tm_onig_atom.specs.Reading.{◌>>=◌, rest_of, meant_at}
-use Rattle.tm_onig_atom.specs.Classes.{is_raw, Single, Raw, Slash, single_text, value_of, IsSingle, NoRange, posix_text, IsPosix, NoPosix, Class, Item, One, Range, Escaped, Posix, Nested, And, item_text, inside, IsItem, IsClass, part_of}
+use Rattle.tm_onig_atom.specs.Classes.{is_raw, Single, Raw, Slash, single_text, value_of, IsSingle, NoRange, NoPosix, Item, One, Range, Escaped, Posix, Nested, And, item_text, inside, IsItem, part_of}
 use Rattle.tm_onig_atom.specs.ClassReading.{char_only, single_at, Fronted, range_to, after_single, after_meant, posix_at, or_opens, front_at}
 use Rattle.tm_onig_atom.proofs.Texts.{chosen, bind_ok}
 use Rattle.tm_onig_atom.proofs.EscapeExact.{ReadsEscape, meant_again, meant_found}

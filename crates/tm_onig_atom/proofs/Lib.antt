@@ -3,6 +3,7 @@ pub mod Digits
 pub mod EscapeExact
 pub mod PosixExact
 pub mod Front
+pub mod ClassItems
 pub mod ClassExact
 pub mod SidesWalk
 pub mod ClassTurns

@@ -1,12 +1,12 @@
 -- Names between `[:` and `:]` are read exactly as they are spelled.
-use Rattle.std.proofs.Common.{◌≡◌, ℕ, Bool, true, false, not, cond, List, [], ◌∷◌, ◌++◌, Option, Some, None, option_map, refl, sym, ap, ◌∙◌, subst, inl, inr, ◌⊎◌, append_assoc}
+use Rattle.std.proofs.Common.{◌≡◌, ℕ, Bool, true, false, List, [], ◌∷◌, ◌++◌, Option, Some, None, refl, sym, ap, ◌∙◌, inl, inr, append_assoc}
 use Rattle.std.specs.Prelude.{◌==◌}
 use Rattle.std.specs.List.{list_any}
-use Rattle.std.proofs.lemmas.Bool.{cases_Bool, eqb-true, both_ways}
+use Rattle.std.proofs.lemmas.Bool.{cases_Bool, eqb-true}
 use Rattle.tm_onig_class.specs.declared.listed.Listed.{Listed}
 use Rattle.tm_onig_atom.specs.declared.meanings.Named.{Named}
 use Rattle.tm_onig_atom.specs.Escapes.{begins, of_listed}
-use Rattle.tm_onig_atom.specs.Reading.{◌>>=◌, rest_of, before}
+use Rattle.tm_onig_atom.specs.Reading.{◌>>=◌, before}
 use Rattle.tm_onig_atom.specs.Classes.{class_name, posix_text, IsPosix, NoPosix}
 use Rattle.tm_onig_atom.specs.ClassReading.{posix_end, posix_name, posix_caret, posix_at}
 use Rattle.tm_onig_atom.proofs.Texts.{chosen, bind_ok, map_ok, before_again, before_found}

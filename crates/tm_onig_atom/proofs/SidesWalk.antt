@@ -1,18 +1,17 @@
 -- The parts of a class, one after another.
-use Rattle.std.proofs.Common.{◌≡◌, ℕ, zero, suc, ◌+◌, ◌<◌, Bool, true, false, ◌||◌, ◌&&◌, cond, List, [], ◌∷◌, ◌++◌, length, drop, get_or, Option, Some, None, refl, sym, ap, ap₂, ◌∙◌}
-use Rattle.std.specs.Prelude.{◌==◌, nat_le, if◌then◌else◌}
+use Rattle.std.proofs.Common.{◌≡◌, ℕ, zero, suc, ◌+◌, ◌<◌, Bool, true, false, ◌||◌, ◌&&◌, List, [], ◌∷◌, ◌++◌, length, drop, get_or, refl, sym, ap, ap₂, ◌∙◌}
+use Rattle.std.specs.Prelude.{◌==◌}
 use Rattle.std.proofs.lemmas.List.{drop_more}
 use Rattle.ucd_case.specs.CaseFolding.{simple_fold}
 use Rattle.regex_class.specs.Ranges.{Range as CharRange, in_range, in_ranges}
-use Rattle.regex_class.proofs.RangesLemmas.{in_ranges-nil, in_ranges-push, or_assoc, or-false}
-use Rattle.tm_onig_class.specs.Members.{is_char, has_char}
+use Rattle.regex_class.proofs.RangesLemmas.{in_ranges-nil, in_ranges-push, or_assoc}
+use Rattle.tm_onig_class.specs.Members.{is_char}
 use Rattle.tm_onig_class.specs.Folding.{any_below}
-use Rattle.tm_onig_atom.specs.declared.parts.Member.{Member}
 use Rattle.tm_onig_atom.specs.declared.parts.Member.TheVariants as M
 use Rattle.tm_onig_atom.specs.declared.parts.Part.{Part}
 use Rattle.tm_onig_atom.specs.declared.parts.Part.TheVariants.{Adds, Meets, Inner}
 use Rattle.tm_onig_atom.specs.Widening.{alike, widened}
-use Rattle.tm_onig_atom.specs.Classes.{member_has, part_has, is_meets, side_has, later_have}
+use Rattle.tm_onig_atom.specs.Classes.{member_has, part_has, side_has, later_have}
 use Rattle.tm_onig_atom.specs.Sides.{met_after, side_after, walked}
 
 -- tests that agree

@@ -1,7 +1,6 @@
 -- A second reading of classes: one item after another, up to the `]`.
 use Rattle.std.specs.Prelude.{ℕ, zero, suc, ◌+◌, ◌==◌, ◌&&◌, not, nat_le, Bool, true, false, List, [], ◌∷◌, ◌++◌, length, max, Option, Some, None, option_map, if◌then◌else◌}
 use Rattle.regex_class.specs.Ranges.{Range as CharRange}
-use Rattle.tm_onig_class.specs.declared.listed.Listed.{Listed}
 use Rattle.tm_onig_class.specs.Tree.{Tree, InSet}
 use Rattle.tm_onig_atom.specs.declared.options.Options.{Options}
 use Rattle.tm_onig_atom.specs.declared.meanings.Named.{Named}

@@ -22,4 +22,6 @@ pub mod store;
 pub use fault::AtomFault;
 
 #[cfg(test)]
+mod tables;
+#[cfg(test)]
 mod tests;

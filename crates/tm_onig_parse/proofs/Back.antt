@@ -1,5 +1,5 @@
 -- What is read was written so: the same stack, of what is written.
-use Rattle.std.proofs.Common.{◌≡◌, ℕ, ◌+◌, ◌≤◌, Bool, true, false, List, [], ◌∷◌, ◌++◌, Option, Some, None, refl, sym, ap, ◌∙◌, subst, arith, append_assoc, append-nil, add_assoc, option_map}
+use Rattle.std.proofs.Common.{◌≡◌, ℕ, ◌+◌, ◌≤◌, Bool, true, false, List, [], ◌∷◌, ◌++◌, Option, Some, None, refl, sym, ap, ◌∙◌, arith, append_assoc, append-nil, add_assoc, option_map}
 use Rattle.std.proofs.lemmas.Option.{cond_some}
 use Rattle.std.specs.Prelude.{nat_le, if◌then◌else◌}
 use Rattle.std.proofs.lemmas.Bool.{leb-true}
@@ -10,7 +10,7 @@ use Rattle.tm_onig_parse.specs.declared.groups.Opener.TheVariants.{Groups, Sets}
 use Rattle.tm_onig_atom.specs.NoOptions.{no_options}
 use Rattle.tm_onig_parse.specs.Things.{Opening, inside, opener_of, count, Amount, Mark, least_of, greatest_of, manner_of, Skip, Tok, Toks, Single, Opens, Setting, Closing, Bar, Times, Skipped}
 use Rattle.tm_onig_parse.specs.Grammar.{Body, Simply, Under, Alts, First, Also, Row, Nothing, Then, Noted, Piece, Alone, Inside, Repeated, Behind, end_options, written, written_alts, written_row, written_piece, groups, groups_alts, groups_row, groups_piece}
-use Rattle.tm_onig_parse.specs.Meaning.{Built, enclosed, alts_built, quantified, bodies, rows, parts, piece_built, built, meaning}
+use Rattle.tm_onig_parse.specs.Meaning.{Built, enclosed, quantified, rows, parts, piece_built, built, meaning}
 use Rattle.tm_onig_atom.specs.Reading.{◌>>=◌}
 use Rattle.tm_onig_parse.specs.Reading.{Close, Or, Repeats, Level, State, added, level_built, is_set, settled, close_in, within, more_times, change_last, step, advancing, finish_in, finish}
 use Rattle.tm_onig_atom.proofs.Texts.{bind_ok}

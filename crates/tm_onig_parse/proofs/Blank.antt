@@ -1,5 +1,5 @@
 -- White space begins nothing of its own.
-use Rattle.std.proofs.Common.{◌≡◌, ℕ, Bool, true, false, refl}
+use Rattle.std.proofs.Common.{◌≡◌, ℕ, true, false, refl}
 use Rattle.std.specs.Prelude.{◌==◌}
 use Rattle.std.proofs.lemmas.Bool.{ne_eqb}
 use Rattle.regex_class.specs.Ranges.{in_ranges, in_range}

@@ -1,14 +1,14 @@
 -- The groups of what is written are read first.
-use Rattle.std.proofs.Common.{◌≡◌, ℕ, zero, suc, ◌+◌, ◌<◌, ◌≤◌, Bool, true, false, List, [], ◌∷◌, ◌++◌, length, Option, Some, None, option_map, refl, sym, ap, ap₂, ◌∙◌, subst, arith, length-append, append_assoc, append-nil}
-use Rattle.std.specs.Prelude.{nat_le, if◌then◌else◌}
+use Rattle.std.proofs.Common.{◌≡◌, ℕ, zero, suc, ◌+◌, ◌<◌, ◌≤◌, Bool, true, false, List, [], ◌∷◌, ◌++◌, length, Option, Some, None, option_map, refl, sym, ap, ap₂, ◌∙◌, arith, length-append, append_assoc, append-nil}
+use Rattle.std.specs.Prelude.{if◌then◌else◌}
 use Rattle.std.proofs.lemmas.Option.{cond_some}
 use Rattle.tm_onig_atom.specs.declared.options.Options.{Options}
 use Rattle.tm_onig_parse.specs.declared.groups.Opener.TheVariants.{Sets}
 use Rattle.tm_onig_parse.specs.Names.{Names}
-use Rattle.tm_onig_parse.specs.Things.{Atom, Plain, Escaped, Placed, Bracketed, Refers, back_tree, IsAtom, Opening, opener_of, name_of, inside, begun, count, Tok, Toks, Single, Opens, Setting, Closing, Bar, Times, Skipped, text_of, IsTok, spelling, AreToks, names_begun, names_among}
+use Rattle.tm_onig_parse.specs.Things.{Plain, Escaped, Placed, Bracketed, Refers, back_tree, Opening, opener_of, name_of, inside, begun, count, Tok, Toks, Single, Opens, Setting, Closing, Bar, Times, Skipped, text_of, IsTok, spelling, AreToks, names_begun, names_among}
 use Rattle.tm_onig_parse.specs.Meaning.{Built, enclosed}
 use Rattle.tm_onig_atom.specs.Reading.{◌>>=◌}
-use Rattle.tm_onig_parse.specs.Reading.{Sym, Level, State, added, level_built, is_set, settled, close_in, within, entered, step, token_at, Outline, outline_step, outline_close, names_read}
+use Rattle.tm_onig_parse.specs.Reading.{Level, State, added, level_built, is_set, settled, close_in, within, entered, step, token_at, Outline, outline_step, outline_close, names_read}
 use Rattle.tm_onig_atom.proofs.Texts.{bind_ok}
 use Rattle.tm_onig_parse.proofs.OneRead.{sym_of}
 use Rattle.tm_onig_parse.proofs.Lexing.{token_again, text_length}

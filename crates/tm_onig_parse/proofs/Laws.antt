@@ -1,5 +1,5 @@
 -- The reading is that of the grammar.
-use Rattle.std.proofs.Common.{◌≡◌, ℕ, zero, suc, ◌+◌, ◌<◌, ◌≤◌, Bool, true, false, List, [], ◌∷◌, ◌++◌, length, Option, Some, None, Result, Ok, Err, refl, sym, ap, ◌∙◌, subst, arith, length-append, append_assoc, option_map, le-leb}
+use Rattle.std.proofs.Common.{◌≡◌, ℕ, zero, suc, ◌<◌, ◌≤◌, Bool, true, false, List, [], ◌∷◌, ◌++◌, length, Option, Some, None, Result, Ok, Err, refl, sym, ap, ◌∙◌, subst, arith, length-append, append_assoc, option_map, le-leb}
 use Rattle.std.specs.Prelude.{IfOk, nat_le, if◌then◌else◌}
 use Rattle.std.proofs.lemmas.Option.{cond_some}
 use Rattle.std.proofs.lemmas.Bool.{leb-true}
@@ -22,7 +22,7 @@ use Rattle.tm_onig_atom.proofs.Texts.{bind_ok}
 use Rattle.tm_onig_parse.proofs.OneRead.{sym_of}
 use Rattle.tm_onig_parse.proofs.Lexing.{token_again, token_found, text_length}
 use Rattle.tm_onig_parse.proofs.Heights.{alts_low}
-use Rattle.tm_onig_parse.proofs.Structure.{Runs, kind, at, body_run, BodyRun, whole_body}
+use Rattle.tm_onig_parse.proofs.Structure.{Runs, kind, body_run, BodyRun, whole_body}
 use Rattle.tm_onig_parse.proofs.Back.{Stack, stack, state_of, stack_written, options_of, kind_options, step_back, same_state, Ends, finish_back}
 use Rattle.tm_onig_parse.proofs.Advancing.{takes_wide, wide_takes}
 use Rattle.tm_onig_parse.proofs.GroupsRead.{groups_read}

@@ -1,5 +1,5 @@
 -- One thing is read exactly as it is spelled.
-use Rattle.std.proofs.Common.{◌≡◌, ℕ, ◌<◌, ◌≤◌, Bool, true, false, List, [], ◌∷◌, ◌++◌, ◌&&◌, ◌||◌, length, Option, Some, None, option_map, refl, sym, ap, ◌∙◌, subst, inl, inr, arith, length-append, append_assoc}
+use Rattle.std.proofs.Common.{◌≡◌, ℕ, ◌<◌, Bool, true, false, List, [], ◌∷◌, ◌++◌, ◌&&◌, ◌||◌, length, Option, Some, None, option_map, refl, sym, ap, ◌∙◌, subst, inl, inr, arith, length-append, append_assoc}
 use Rattle.std.specs.Prelude.{◌==◌}
 use Rattle.std.specs.List.{list_any}
 use Rattle.std.proofs.lemmas.Bool.{cases_Bool, eqb-true, eq-eqb, and_parts}
@@ -8,7 +8,7 @@ use Rattle.tm_onig_class.specs.declared.patterns.Position.{Position}
 use Rattle.tm_onig_atom.specs.declared.options.Options.{Options}
 use Rattle.tm_onig_atom.specs.ClassReading.{class_at}
 use Rattle.tm_onig_atom.specs.Classes.{Class, inside, class_height}
-use Rattle.tm_onig_atom.specs.Escapes.{begins, Escape, escape_head, escape_text}
+use Rattle.tm_onig_atom.specs.Escapes.{Escape, escape_head, escape_text}
 use Rattle.tm_onig_atom.specs.Reading as Atoms
 use Rattle.tm_onig_atom.proofs.ClassExact.{class_again, class_found}
 use Rattle.tm_onig_atom.proofs.EscapeExact.{escape_again as character_again, escape_found as character_found}

@@ -19,7 +19,7 @@ use Rattle.tm_onig_atom.specs.Classes.{Class, class_tree}
 use Rattle.tm_onig_atom.specs.Escapes.{meant as meant_by, meant_tree}
 use Rattle.tm_onig_parse.specs.Characters.{is_special, single_tree}
 use Rattle.tm_onig_parse.specs.Names.{Names, is_called, called_from, some_in, Key, Number, Name, key_of, meant}
-use Rattle.tm_onig_parse.specs.Things.{back_tree, Atom, Plain, Escaped, Placed, Bracketed, Refers, IsAtom, Opening, Capture, Named, Group, Keep, Look, inside, opener_of, name_of, begun, count, least_of, greatest_of, manner_of, Toks, Single, Opens, Setting, Closing, Bar, Times, Skipped, spelling, AreToks, names_begun, names_among}
+use Rattle.tm_onig_parse.specs.Things.{back_tree, Atom, Plain, Escaped, Placed, Bracketed, Refers, IsAtom, inside, opener_of, name_of, begun, count, least_of, greatest_of, manner_of, Toks, Single, Opens, Setting, Closing, Bar, Times, Skipped, spelling, AreToks, names_begun, names_among}
 use Rattle.tm_onig_parse.specs.Grammar.{Body, Simply, Under, Alts, First, Also, Row, Nothing, Then, Noted, Piece, Alone, Inside, Repeated, Behind, end_options, written, written_alts, written_row, written_piece, groups, groups_alts, groups_row, groups_piece}
 use Rattle.tm_onig_parse.specs.Meaning.{Built, enclosed, quantified, tree_in, row_built, alts_built, atom_built, bodies, rows, parts, piece_built, meaning, names_in, Spells}
 

@@ -1,5 +1,5 @@
 -- One thing that was read.
-use Rattle.std.proofs.Common.{◌≡◌, ℕ, List, ◌∷◌, ◌++◌, Option, Some, refl, ◌∙◌, subst}
+use Rattle.std.proofs.Common.{◌≡◌, ℕ, List, ◌++◌, Option, Some, refl, ◌∙◌, subst}
 use Rattle.tm_onig_atom.specs.declared.options.Options.{Options}
 use Rattle.tm_onig_parse.specs.Names.{Names}
 use Rattle.tm_onig_parse.specs.Things.{inside, opener_of, name_of, least_of, greatest_of, manner_of, Tok, Single, Opens, Setting, Closing, Bar, Times, Skipped, text_of, IsTok}

@@ -1,15 +1,14 @@
 -- What stands behind a `(` is read exactly as it is spelled.
-use Rattle.std.proofs.Common.{◌≡◌, ℕ, ◌<◌, Bool, true, false, ◌||◌, List, [], ◌∷◌, ◌++◌, length, Option, Some, None, refl, sym, ap, ◌∙◌, subst, inl, inr, ◌⊎◌, arith, append_assoc}
+use Rattle.std.proofs.Common.{◌≡◌, ℕ, ◌<◌, Bool, true, false, List, [], ◌∷◌, ◌++◌, length, Option, Some, None, refl, sym, ap, ◌∙◌, subst, inl, inr, arith, append_assoc}
 use Rattle.std.specs.Prelude.{◌==◌}
 use Rattle.std.specs.List.{list_any, list_all}
 use Rattle.std.proofs.lemmas.Bool.{cases_Bool, eqb-true, ne_eqb, and_parts}
 use Rattle.tm_onig_atom.specs.declared.options.Options.{Options}
-use Rattle.tm_onig_parse.specs.declared.groups.Opener.TheVariants.{Captures, Groups, Keeps, Looks}
+use Rattle.tm_onig_parse.specs.declared.groups.Opener.TheVariants.{Captures, Groups}
 use Rattle.tm_onig_atom.specs.Escapes.{begins}
-use Rattle.tm_onig_atom.specs.Reading.{◌>>=◌}
 use Rattle.tm_onig_parse.specs.Names.{Names, is_name_char, IsName}
 use Rattle.tm_onig_parse.specs.Options.{letter, switched}
-use Rattle.tm_onig_parse.specs.Things.{Opening, Capture, Named, Group, Keep, Look, opening_text, IsOpening, inside, opener_of, name_of, Tok, Opens, Setting, Skipped, Comment, text_of, IsTok}
+use Rattle.tm_onig_parse.specs.Things.{Opening, Capture, Named, Group, Keep, Look, opening_text, IsOpening, Opens, Setting, Skipped, Comment}
 use Rattle.tm_onig_parse.specs.Reading.{Sym, Open, Switches, Skips, Found, comment_at, name_to, named_at, behind_at, switch_at, groups_at, open_at}
 use Rattle.tm_onig_atom.proofs.Texts.{chosen, bind_ok, differs, or_parts}
 use Rattle.tm_onig_parse.proofs.OneRead.{sym_of, same_pair, Reads, reads_by, reads_as}

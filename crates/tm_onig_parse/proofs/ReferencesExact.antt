@@ -1,18 +1,17 @@
 -- References are read exactly as they are spelled.
-use Rattle.std.proofs.Common.{◌≡◌, ℕ, ◌<◌, ◌≤◌, Bool, true, false, not, ◌&&◌, ◌||◌, List, [], ◌∷◌, ◌++◌, length, Option, Some, None, refl, sym, ap, ◌∙◌, subst, inl, inr, ◌⊎◌, arith, append_assoc}
+use Rattle.std.proofs.Common.{◌≡◌, ℕ, ◌<◌, ◌≤◌, Bool, true, false, not, ◌&&◌, ◌||◌, List, [], ◌∷◌, ◌++◌, length, Option, Some, refl, sym, ap, ◌∙◌, inl, inr, arith, append_assoc}
 use Rattle.std.specs.Prelude.{◌==◌}
 use Rattle.std.specs.List.{list_all}
 use Rattle.std.specs.Char.{is_ascii_digit}
 use Rattle.std.specs.Str.Parse.{digits_value}
-use Rattle.std.proofs.lemmas.Bool.{cases_Bool, eqb-true, and_parts, both_ways}
+use Rattle.std.proofs.lemmas.Bool.{eqb-true, and_parts}
 use Rattle.std.proofs.lemmas.Bool.Decides.{nat_tests}
-use Rattle.std.proofs.lemmas.Option.{cond_some}
 use Rattle.tm_onig_atom.specs.declared.options.Options.{Options}
 use Rattle.tm_onig_atom.specs.Escapes.{begins}
 use Rattle.tm_onig_atom.specs.Reading.{rest_of}
-use Rattle.tm_onig_parse.specs.Names.{Names, is_name_char, starts_name, IsName, begins_digit, Reference, Digits, Numbered, Called, reference_text, IsReference, Key, Number, Name, key_of}
+use Rattle.tm_onig_parse.specs.Names.{Names, starts_name, begins_digit, Reference, Digits, Numbered, Called, reference_text, IsReference, Number, Name, key_of}
 use Rattle.tm_onig_parse.specs.Things.{begins_reference}
-use Rattle.tm_onig_parse.specs.Reading.{Sym, Found, number_at, limited, name_to, refers, numbered, digits_ref, number_ref, name_ref, keyed_at, reference_at, escape_at}
+use Rattle.tm_onig_parse.specs.Reading.{Sym, limited, name_to, refers, numbered, digits_ref, number_ref, name_ref, keyed_at, reference_at, escape_at}
 use Rattle.tm_onig_atom.proofs.Texts.{chosen, bind_ok}
 use Rattle.tm_onig_parse.proofs.BoundsValues.{below, limited_found}
 use Rattle.tm_onig_parse.proofs.NamesExact.{name_to_again, name_to_found, number_again, Digits as Front, digits_of, number_found, some_digits}

@@ -1,14 +1,13 @@
 -- The groups that options made end one after another.
-use Rattle.std.proofs.Common.{◌≡◌, ℕ, ◌<◌, ◌≤◌, Bool, true, false, List, [], ◌∷◌, length, Option, Some, None, Result, Ok, Err, map, refl, sym, ap, ◌∙◌, subst, arith, le-leb}
-use Rattle.std.specs.Prelude.{nat_le, if◌then◌else◌}
+use Rattle.std.proofs.Common.{◌≡◌, ℕ, ◌<◌, true, false, List, [], ◌∷◌, length, Option, Some, None, Result, refl, subst, arith, le-leb}
 use Rattle.std.proofs.lemmas.List.{length-reverse, length-map}
 use Rattle.tm_onig_parse.specs.declared.groups.Frame.{Frame}
 use Rattle.tm_onig_parse.specs.declared.ParseFault.{ParseFault}
 use Rattle.tm_onig_parse.specs.declared.ParseFault.TheVariants.{Unreadable, OutOfMemory}
 use Rattle.tm_onig_parse.specs.Meaning.{Built, enclosed}
 use Rattle.tm_onig_atom.specs.Reading.{◌>>=◌}
-use Rattle.tm_onig_parse.specs.Reading.{Close, Level, State, added, level_built, within, is_set, settled, close_in, step, finish_in, finish}
-use Rattle.tm_onig_parse.specs.Views.{Fails, Steps, level_of_frame, levels_of}
+use Rattle.tm_onig_parse.specs.Reading.{Close, Level, State, added, level_built, within, is_set, settled, close_in, step, finish}
+use Rattle.tm_onig_parse.specs.Views.{Fails, Steps, levels_of}
 use Rattle.tm_onig_parse.proofs.Back.{within_ok, same_state}
 
 -- What a group that options made ends as.

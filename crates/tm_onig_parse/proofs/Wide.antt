@@ -1,5 +1,5 @@
 -- Escapes and classes take a character.
-use Rattle.std.proofs.Common.{◌≡◌, ℕ, ◌≤◌, Bool, true, List, Option, Some, refl, sym, subst}
+use Rattle.std.proofs.Common.{◌≡◌, ℕ, ◌≤◌, true, List, Some, refl, sym, subst}
 use Rattle.std.specs.Prelude.{nat_lt}
 use Rattle.tm_onig_class.specs.Tree.{Tree}
 use Rattle.tm_onig_class.specs.Widths.{least_width}

@@ -1,4 +1,4 @@
-use Rattle.std.proofs.Common.{drop, ap, sym, ◌∙◌}
+use Rattle.std.proofs.Common.{ap, sym, ◌∙◌}
 use Rattle.std.proofs.lemmas.List.{drop_all}
 use Rattle.std.proofs.lemmas.Result.{IfOk-weaker}
 use Rattle.tm_onig_atom.specs.Sides.{met_has, side_now, walked, met_after, side_after}

@@ -1,4 +1,4 @@
-use Rattle.std.proofs.Common.{◌≡◌, ◌<◌, subst, sym, arith}
+use Rattle.std.proofs.Common.{◌<◌, subst, sym, arith}
 use Rattle.tm_onig_atom.proofs.Digits.{fits, one_digit}
 use Rattle.tm_onig_atom.proofs.numbers.digits.Goals as goal
 
