@@ -163,9 +163,9 @@ ended end p m [] = rests end p
 ended end p m (next ∷ rest) =
     if not (advances p m) && is_entered p.at p.entries
     then Stops (adds (paints p.top.contents p.top.names m ++ piece end p.top.names ∷ []) (state_made (closing p.top ∷ next ∷ rest)))
-        (closing p.top ∷ next ∷ rest)
+    (closing p.top ∷ next ∷ rest)
     else GoesOn (adds (paints p.top.contents p.top.names m) none_made)
-        (onward p m next rest (left_entries p.entries) (anchor_before p.entries))
+    (onward p m next rest (left_entries p.entries) (anchor_before p.entries))
 
 -- A rule begins: it is open from here on, with its names pushed onto the content scopes, and the anchor is where
 -- the begin ends. A begin that has not advanced, of a rule that was opened at this position already, is stuck: the
@@ -178,7 +178,7 @@ begun end p rule m names =
     if not (advances p m) && has (near p.at p.entries) rule
     then Stops (adds (paints p.top.contents scopes m ++ piece end p.top.contents ∷ []) made) (stack_of p)
     else GoesOn (adds (paints p.top.contents scopes m) (more_made made (state_made (frame ∷ stack_of p))))
-        (onward p m frame (stack_of p) (record { rule = rule; at = p.at; anchor = p.anchor } ∷ p.entries) (Some m.end))
+    (onward p m frame (stack_of p) (record { rule = rule; at = p.at; anchor = p.anchor } ∷ p.entries) (Some m.end))
 
 -- the open rules without the innermost, if there is one around it
 abbrev pub popped : FrameData → List FrameData → List FrameData

@@ -9,6 +9,6 @@ returns-clause-ok g c =
     let t = g.S.States.tables c.args.table.now in
     let below = state_at t c.args.here.below in
     elim c.match-top.branch [
-      in-Some w ↦ rw w.t-11-is (stuck-below t c.args.here c.requires (reverse below) refl (open-deeper below _ _ w.in-Some.ensures.parts))
-    | in-None w ↦ rw w.t-11-is (stuck-alone t c.args.here c.requires (reverse below) refl (closed-empty below w.in-None.ensures.parts))
+      | in-Some w ↦ rw w.t-11-is (stuck-below t c.args.here c.requires (reverse below) refl (open-deeper below _ _ w.in-Some.ensures.parts))
+      | in-None w ↦ rw w.t-11-is (stuck-alone t c.args.here c.requires (reverse below) refl (closed-empty below w.in-None.ensures.parts))
     ]
