@@ -1,0 +1,11 @@
+pub mod Tree
+pub mod Sizes
+pub mod Keyed
+pub mod Includes
+pub mod Rules
+pub mod Candidates
+pub mod Walk
+pub mod Tasks
+pub mod Flows
+pub mod Lists
+pub mod Laws
