@@ -29,9 +29,6 @@ painted-append (x ∷ xs) b = ap (λ l. record { end = x.end; meta = metadata_of
 among-trans : (a b c : TableEntries) → AreAmong a b → AreAmong b c → AreAmong a c
 among-trans a b c h k = record { texts = λ x m. k.texts x (h.texts x m); paths = λ x m. k.paths x (h.paths x m); states = λ x m. k.states x (h.states x m) }
 
-among-refl : (a : TableEntries) → AreAmong a a
-among-refl a = record { texts = λ x m. m; paths = λ x m. m; states = λ x m. m }
-
 -- what is left of a line makes it whole
 pub record IsLeft (t u : Tables) (old now : List Painted) (before left : ℕ) (all rest : Outcome) : Type 0 where
   pub pieces : now ++ painted metadata_of rest.part.pieces ≡ old ++ painted metadata_of all.part.pieces

@@ -1,7 +1,7 @@
 -- What the body's steps are in the line relation.
-use Rattle.std.proofs.Common.{◌≡◌, ℕ, ◌+◌, ◌<◌, ◌≤◌, ◌++◌, arith, List, [], ◌∷◌, length, map, reverse, Some, None, Option, Bool, true, false, not, nat_eq, nat_lt, eqb-true, refl, ap, sym, ◌∙◌, get_or, subst, append_assoc}
+use Rattle.std.proofs.Common.{◌≡◌, ℕ, ◌+◌, ◌<◌, ◌≤◌, ◌++◌, arith, List, [], ◌∷◌, length, reverse, Some, None, Option, Bool, true, false, not, nat_eq, nat_lt, eqb-true, refl, ap, sym, ◌∙◌, get_or, subst, append_assoc}
 use Rattle.std.specs.Prelude.{slice_get, Result, Ok, Err, IfOk, IfErr, OnOk, IsTrue, ◌==◌, ◌&&◌, max}
-use Rattle.std.proofs.lemmas.List.{reverse-append, reverse-reverse, map-append}
+use Rattle.std.proofs.lemmas.List.{reverse-append, reverse-reverse}
 use Rattle.std.proofs.lemmas.Option.{slice_get-get_or, get_or_from_slice_get}
 use Rattle.std.proofs.lemmas.Bool.{eqb-false}
 use Rattle.tm_defs.specs.declared.frames.FrameData.{FrameData}
@@ -20,7 +20,6 @@ use Rattle.tm_line_run.specs.declared.painter.Painted.{Painted}
 use Rattle.tm_line_run.proofs.Turns.{both}
 use Rattle.tm_line.specs.Rules.{Rule, Match, BeginEnd, Only}
 use Rattle.tm_line.specs.declared.rules.Found.{Found}
-use Rattle.tm_line.specs.declared.way.Entry as code
 use Rattle.tm_line.specs.declared.turn.Here.{Here}
 use Rattle.tm_line.specs.declared.turn.Next.{Next}
 use Rattle.tm_line.specs.declared.turn.Next.TheVariants as next
@@ -29,7 +28,7 @@ use Rattle.tm_meta.specs.Metadata.{metadata_of}
 use Rattle.tm_line.specs.Search.{Candidate, earliest_winner, searches_cost, flattened_candidates}
 use Rattle.tm_line.specs.Searched.{Searches}
 use Rattle.tm_line.specs.Tokenizing.{Spot, place_of}
-use Rattle.tm_line.specs.Turned.{Does, Takes, IsHere, StopsAt, GoesOnAt, place_here, spot_in, entry_of, entries_of, moved, is_stuck_end, is_stuck_begin, entered_spot, part_of, made_in, turn_of, candidate_turn, taken_turn, of_table}
+use Rattle.tm_line.specs.Turned.{Does, Takes, IsHere, StopsAt, GoesOnAt, place_here, spot_in, moved, is_stuck_end, is_stuck_begin, entered_spot, part_of, made_in, turn_of, candidate_turn, taken_turn, of_table}
 use Rattle.tm_line.proofs.Budgets.{spends-more}
 use Rattle.tm_line.proofs.Causes.{of_table-cause}
 
@@ -68,10 +67,6 @@ place-here : (t : Tables) (h : Here) (w : Spot) → state_at t h.state ≡ deepe
 place-here t h w split =
     let stack : reverse (state_at t h.state) ≡ frame_at t h.frame ∷ reverse (state_at t h.below) = ap reverse split ∙ reverse-append (state_at t h.below) (frame_at t h.frame ∷ []) in
     sym (ap (λ s. place_of s w) stack)
-
--- where memory runs out the table has not changed
-pub does-memory : (turn : Turn) (t : Tables) (old new : List Painted) (v : Spot) → Does turn t t old new v (Err table.OutOfMemory)
-does-memory turn t old new v = record { ok = tt; grows = tables-refl (made_in turn) t; full = tt }
 
 -- two pieces, and one more behind them
 more-pieces : (old now new : List Painted) (a b c : Painted) → now ≡ old ++ a ∷ b ∷ [] → new ≡ now ++ c ∷ [] → new ≡ old ++ a ∷ b ∷ c ∷ []
@@ -307,10 +302,6 @@ module _ (rules : List Rule) (text : List ℕ) where
         let does = does-turn t u old new w v (Err fault) h has_end anchored won split has at s.found done in
         record { ok = tt; grows = does.grows; spends = spends-more _ _ before after (searches-least t h w has_end anchored split has at) s.spends; cause = of_table-cause before _ _ u fault said e does.full }
 
--- an entry behind the others is the innermost
-pub entries-push : (front : List code.Entry) (last : code.Entry) → entries_of (front ++ last ∷ []) ≡ entry_of last ∷ entries_of front
-entries-push front last = ap reverse (map-append entry_of front (last ∷ [])) ∙ reverse-append (map entry_of front) (entry_of last ∷ [])
-
 -- below a rule that is not alone the other rules stand
 pub stuck-below : (t : Tables) (h : Here) → IsHere t h → (below : List FrameData) → reverse (state_at t h.below) ≡ below → some_open below ≡ true →
     slice_get t.states h.below.0 ≡ Some (reverse (popped (frame_at t h.frame) below))
@@ -323,10 +314,6 @@ pub stuck-alone : (t : Tables) (h : Here) → IsHere t h → (below : List Frame
 stuck-alone t h here (x ∷ xs) is some = absurd cc
 stuck-alone t h here [] is some =
     stands t h.state _ here.state (here.split ∙ ap (λ l. l ++ frame_at t h.frame ∷ []) (sym (reverse-reverse (state_at t h.below)) ∙ ap reverse is))
-
--- the content scopes that are painted then
-pub contents-below : (top : FrameData) (below : List FrameData) (x : FrameData) (xs : List FrameData) → below ≡ x ∷ xs → popped_contents top below ≡ x.contents
-contents-below top below x xs e = ap (popped_contents top) e
 
 -- the last piece, by a table that has grown
 pub rest-pieces : (t u : Tables) (now new : List Painted) (end : ℕ) (made : TableEntries) (h : Here) → IsHere t h → GrowsWithin made t u →

@@ -1,11 +1,11 @@
 -- Each turn that goes on leaves fewer turns.
-use Rattle.std.proofs.Common.{◌≡◌, ℕ, zero, suc, ◌+◌, ◌-◌, ◌*◌, ◌<◌, ◌≤◌, Bool, true, false, cond, not, max, nat_lt, List, [], ◌∷◌, length, Option, Some, None, refl, ap, sym, ◌∙◌, subst, arith, eqb-true, eq-eqb}
+use Rattle.std.proofs.Common.{◌≡◌, ℕ, zero, suc, ◌+◌, ◌-◌, ◌*◌, ◌<◌, ◌≤◌, Bool, true, false, cond, not, max, nat_lt, List, [], ◌∷◌, length, Option, Some, refl, ap, sym, ◌∙◌, arith, eqb-true, eq-eqb}
 use Rattle.std.proofs.lemmas.Bool.{eqb-false}
 use Rattle.std.specs.Prelude.{◌&&◌, ◌||◌, ◌==◌, ⊤}
 use Rattle.std.proofs.Math.Nat.{mul-le-mul_left}
 use Rattle.std.proofs.lemmas.Bool.Decides.{nat_tests}
 use Rattle.tm_defs.specs.declared.frames.FrameData.{FrameData}
-use Rattle.tm_line_run.specs.LineRun.{Entry, Place, Match, Winner, Nothing, Ends, Begins, Matches, Outcome, Turn, Stops, GoesOn, Grammar, is_entered, near, has, left_entries, anchor_before, stack_of, joined, opened, advances, onward, rests, ended, begun, matched, by_winner, asked, paid, turn, after, runs, unused, left, line_run}
+use Rattle.tm_line_run.specs.LineRun.{Entry, Place, Match, Winner, Nothing, Ends, Begins, Matches, Outcome, Turn, Stops, GoesOn, Grammar, is_entered, near, has, left_entries, anchor_before, stack_of, joined, opened, advances, onward, ended, begun, matched, by_winner, asked, paid, turn, after, runs, unused, left, line_run}
 use Rattle.tm_line_run.specs.Laws.{IsWinnerWithin, FindsWithin, IsLineRun}
 
 -- either side of a choice

@@ -1,7 +1,7 @@
 -- The line relation, by its equation.
 use Rattle.std.specs.Prelude.{◌≡◌, ℕ, ◌<◌, ◌≤◌, Bool, ⊤}
 use Rattle.tm_defs.specs.declared.frames.FrameData.{FrameData}
-use Rattle.tm_line_run.specs.LineRun.{Place, Match, Winner, Nothing, Ends, Begins, Matches, Grammar, Outcome, turn, after, line_run}
+use Rattle.tm_line_run.specs.LineRun.{Place, Winner, Nothing, Ends, Begins, Matches, Grammar, Outcome, turn, after, line_run}
 
 -- a match ends in the text, and the rule that begins has a number
 abbrev pub IsWinnerWithin : ℕ → ℕ → Winner → Type 0

@@ -1,7 +1,7 @@
-use Rattle.std.proofs.Common.{sym, ◌∙◌}
+use Rattle.std.proofs.Common.{sym}
 use Rattle.std.specs.Option.{option_to_list}
 use Rattle.tm_line.specs.Turned.{spot_of}
-use Rattle.tm_line.proofs.Turns.{does-match, does-match-err, does-match-stuck}
+use Rattle.tm_line.proofs.Turns.{does-match, does-match-err}
 use Rattle.tm_line.proofs.turn.matches.Goals as goal
 
 pub returns-in-Err : goal.returns-in-Err

@@ -1,4 +1,4 @@
-use Rattle.tm_line.proofs.Turns.{does-rest, does-memory}
+use Rattle.tm_line.proofs.Turns.{does-rest}
 use Rattle.tm_line.proofs.turn.rest.Goals as goal
 
 pub returns : goal.returns
