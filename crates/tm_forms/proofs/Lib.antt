@@ -1,7 +1,6 @@
 pub mod BuiltSteps
 pub mod Levels
 pub mod Numbered
-pub mod RulesAdvance
 pub mod RuleWalk
 pub mod Utf8Texts
 pub mod Values

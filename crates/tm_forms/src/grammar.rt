@@ -30,11 +30,7 @@ pub struct Grammar {
 
 impl Model for Grammar {
     ghost use Rattle.std.specs.Coded.{codes};
-    ghost use Rattle.std.specs.Prelude.{IsTrue};
-    ghost use Rattle.std.specs.List.{list_all};
     ghost use Rattle.tm_onig_class.specs.contracts.patterns.Pattern as pattern;
-    ghost use Rattle.tm_line.specs.Advancing.{advances};
-    ghost use Rattle.tm_line.specs.Rules.{rules_data};
     ghost use Rattle.tm_line.specs.Setting.{BuiltSetting};
 
     ghost Value = { BuiltSetting };
@@ -42,8 +38,6 @@ impl Model for Grammar {
     ghost coded = { Prim.hlevel (codes, pattern.the_row.coded) };
 
     ghost view = { λ a. record { scope = a.scope; rules = a.rules.items } };
-
-    ghost invariant = { λ a. IsTrue (list_all advances (rules_data a.rules.items)) };
 }
 
 impl Grammar {

@@ -1,10 +1,9 @@
 pub mod Budgets
 pub mod Causes
 pub mod Earliest
-pub mod Forward
+pub mod Found
 pub mod Lines
 pub mod Paths
-pub mod Reaches
 pub mod Starts
 pub mod Tokens
 pub mod Turns

@@ -9,15 +9,16 @@ use Rattle.tm_defs.specs.declared.tokenizer.LineFault.{LineFault}
 use Rattle.tm_defs.specs.Tables.{Tables, TableEntries, GrowsWithin, more_made, state_at}
 use Rattle.tm_defs.proofs.Growth.{AreAmong, tables-trans}
 use Rattle.tm_defs.proofs.Chains.{left-among, right-among, state_at-is}
-use Rattle.tm_line_run.specs.LineRun.{Piece, Place, Outcome, Turn, Stops, GoesOn, stack_of, some_open, after}
+use Rattle.tm_line_run.specs.LineRun.{Piece, Place, Outcome, Grammar, Turn, Stops, GoesOn, stack_of, some_open, after}
+use Rattle.tm_line_run.specs.LineRun.{left as turns_left}
 use Rattle.tm_line_run.specs.Painted.{painted}
 use Rattle.tm_line_run.specs.declared.painter.Painted.{Painted}
-use Rattle.tm_line_run.proofs.Turns.{Falls}
+use Rattle.tm_line_run.proofs.Turns.{Falls, IsWithin}
 use Rattle.tm_line.specs.declared.turn.Next.TheVariants as next
 use Rattle.tm_meta.specs.Metadata.{metadata_of}
 use Rattle.tm_line.specs.Ran.{Ran}
-use Rattle.tm_line.specs.Tokenizing.{place_of}
-use Rattle.tm_line.specs.Turned.{Takes, part_of, made_in}
+use Rattle.tm_line.specs.Tokenizing.{Spot, place_of}
+use Rattle.tm_line.specs.Turned.{Takes, spot_in, part_of, made_in}
 use Rattle.tm_line.proofs.Budgets.{IsPartSpent, more-spent, part-spent, part-over}
 use Rattle.tm_line.proofs.Causes.{cause-more}
 
@@ -27,9 +28,6 @@ painted-append (x ∷ xs) b = ap (λ l. record { end = x.end; meta = metadata_of
 
 among-trans : (a b c : TableEntries) → AreAmong a b → AreAmong b c → AreAmong a c
 among-trans a b c h k = record { texts = λ x m. k.texts x (h.texts x m); paths = λ x m. k.paths x (h.paths x m); states = λ x m. k.states x (h.states x m) }
-
-among-refl : (a : TableEntries) → AreAmong a a
-among-refl a = record { texts = λ x m. m; paths = λ x m. m; states = λ x m. m }
 
 -- what is left of a line makes it whole
 pub record IsLeft (t u : Tables) (old now : List Painted) (before left : ℕ) (all rest : Outcome) : Type 0 where
@@ -43,17 +41,17 @@ pub record IsLeft (t u : Tables) (old now : List Painted) (before left : ℕ) (a
 state-is : (v : Tables) (id : StateId) (stack : List FrameData) → slice_get v.states id.0 ≡ Some (reverse stack) → reverse (state_at v id) ≡ stack
 state-is v id stack is = ap reverse (state_at-is v id (reverse stack) is) ∙ reverse-reverse stack
 
-place-is : (v : Tables) (id : StateId) (at : ℕ) (q : Place) → slice_get v.states id.0 ≡ Some (reverse (stack_of q)) → at ≡ q.at → place_of (reverse (state_at v id)) at ≡ q
-place-is v id at q is e = ap (λ s. place_of s at) (state-is v id (stack_of q) is) ∙ ap (λ n. place_of (stack_of q) n) e
+place-is : (v : Tables) (id : StateId) (w : Spot) (q : Place) → slice_get v.states id.0 ≡ Some (reverse (stack_of q)) → w ≡ spot_in q → place_of (reverse (state_at v id)) w ≡ q
+place-is v id w q is e = ap (λ s. place_of s w) (state-is v id (stack_of q) is) ∙ ap (λ (x : Spot). place_of (stack_of q) x) e
 
 -- a turn that goes on leaves what is left of its place
-pub goes-left : (go : Place → Outcome) (t u v : Tables) (old now new : List Painted) (before left spare : ℕ) (all : Outcome) (p : Place) (turn : Turn) (id : StateId) (at : ℕ) →
-    go p ≡ after go turn → IsLeft t u old now before left all (go p) → Takes turn u v now new left spare (Ok (next.GoesOn id at)) →
-    IsLeft t v old new before spare all (go (place_of (reverse (state_at v id)) at))
-goes-left go t u v old now new before left spare all p (Stops part stack) id at e was does = absurd does.ok.leads
-goes-left go t u v old now new before left spare all p (GoesOn part q) id at e was does =
+pub goes-left : (go : Place → Outcome) (t u v : Tables) (old now new : List Painted) (before left spare : ℕ) (all : Outcome) (p : Place) (turn : Turn) (w : Spot) (id : StateId) →
+    go p ≡ after go turn → IsLeft t u old now before left all (go p) → Takes turn u v now new w left spare (Ok (next.GoesOn id)) →
+    IsLeft t v old new before spare all (go (place_of (reverse (state_at v id)) w))
+goes-left go t u v old now new before left spare all p (Stops part stack) w id e was does = absurd does.ok.leads
+goes-left go t u v old now new before left spare all p (GoesOn part q) w id e was does =
     let run = go q in
-    let place = place-is v id at q does.ok.leads.0 does.ok.leads.1 in
+    let place = place-is v id w q does.ok.leads.0 does.ok.leads.1 in
     let P : Outcome → Type 0 = λ o. IsLeft t u old now before left all o in
     let here = subst P e was in
     let Q : Place → Type 0 = λ x. IsLeft t v old new before spare all (go x) in
@@ -79,9 +77,9 @@ part-left go t u old now before left all (GoesOn part q) h =
     record { among = among-trans part.made (more_made part.made (go q).part.made) all.part.made (left-among part.made (go q).part.made) h.among; rest = (go q).part.cost; spent = h.spent }
 
 -- a refused turn is a refused line
-pub err-left : (go : Place → Outcome) (t u v : Tables) (old now new : List Painted) (before left spare : ℕ) (all : Outcome) (p : Place) (turn : Turn) (cause : LineFault) →
-    go p ≡ after go turn → IsLeft t u old now before left all (go p) → Takes turn u v now new left spare (Err cause) → Ran all t v old new before spare (Err cause)
-err-left go t u v old now new before left spare all p turn cause e was does =
+pub err-left : (go : Place → Outcome) (t u v : Tables) (old now new : List Painted) (before left spare : ℕ) (all : Outcome) (p : Place) (turn : Turn) (w : Spot) (cause : LineFault) →
+    go p ≡ after go turn → IsLeft t u old now before left all (go p) → Takes turn u v now new w left spare (Err cause) → Ran all t v old new before spare (Err cause)
+err-left go t u v old now new before left spare all p turn w cause e was does =
     let P : Outcome → Type 0 = λ o. IsLeft t u old now before left all o in
     let part = part-left go t u old now before left all turn (subst P e was) in
     record {
@@ -93,10 +91,10 @@ err-left go t u v old now new before left spare all p turn cause e was does =
     }
 
 -- a turn that stops ends the line
-pub stops-left : (go : Place → Outcome) (t u v : Tables) (old now new : List Painted) (before left spare : ℕ) (all : Outcome) (p : Place) (turn : Turn) (id : StateId) →
-    go p ≡ after go turn → IsLeft t u old now before left all (go p) → Takes turn u v now new left spare (Ok (next.Stops id)) → Ran all t v old new before spare (Ok id)
-stops-left go t u v old now new before left spare all p (GoesOn part q) id e was does = absurd does.ok.leads
-stops-left go t u v old now new before left spare all p (Stops part stack) id e was does =
+pub stops-left : (go : Place → Outcome) (t u v : Tables) (old now new : List Painted) (before left spare : ℕ) (all : Outcome) (p : Place) (turn : Turn) (w : Spot) (id : StateId) →
+    go p ≡ after go turn → IsLeft t u old now before left all (go p) → Takes turn u v now new w left spare (Ok (next.Stops id)) → Ran all t v old new before spare (Ok id)
+stops-left go t u v old now new before left spare all p (GoesOn part q) w id e was does = absurd does.ok.leads
+stops-left go t u v old now new before left spare all p (Stops part stack) w id e was does =
     let P : Outcome → Type 0 = λ o. IsLeft t u old now before left all o in
     let here = subst P e was in
     let a = here.spent.falls in
@@ -111,16 +109,16 @@ stops-left go t u v old now new before left spare all p (Stops part stack) id e 
       cause = tt;
     }
 
--- where a turn leads, there is a state with frames, further on in the text
-pub leads-within : (end : ℕ) (u v : Tables) (now new : List Painted) (left spare : ℕ) (p : Place) (turn : Turn) (id : StateId) (at : ℕ) → Falls end p turn → Takes turn u v now new left spare (Ok (next.GoesOn id at)) →
-    (id.0 < length v.states) × IsTrue (some_open (reverse (state_at v id))) × (p.at < at) × (at ≤ end)
-leads-within end u v now new left spare p (Stops part stack) id at falls does = absurd does.ok.leads
-leads-within end u v now new left spare p (GoesOn part q) id at falls does =
+-- where a turn leads, there is a state with frames, further on in the text and with fewer turns left
+pub leads-within : (g : Grammar) (u v : Tables) (now new : List Painted) (left spare : ℕ) (p : Place) (turn : Turn) (w : Spot) (id : StateId) → Falls g p turn → IsWithin g.end turn → Takes turn u v now new w left spare (Ok (next.GoesOn id)) →
+    (id.0 < length v.states) × IsTrue (some_open (reverse (state_at v id))) × (w.at ≤ g.end) × (turns_left g (place_of (reverse (state_at v id)) w) < turns_left g p)
+leads-within g u v now new left spare p (Stops part stack) w id falls within does = absurd does.ok.leads
+leads-within g u v now new left spare p (GoesOn part q) w id falls within does =
     let stack = state-is v id (stack_of q) does.ok.leads.0 in
-    let lower : p.at < at = omega (arith, falls.0, does.ok.leads.1) in
-    let upper : at ≤ end = omega (arith, falls.1, does.ok.leads.1) in
-    (slice_get_within v.states id.0 _ does.ok.leads.0, ap some_open stack, lower, upper)
+    let place = place-is v id w q does.ok.leads.0 does.ok.leads.1 in
+    let same : w.at ≡ q.at = ap (λ (x : Spot). x.at) does.ok.leads.1 in
+    (slice_get_within v.states id.0 _ does.ok.leads.0, ap some_open stack, omega (arith, same, within), subst (λ (x : Place). turns_left g x < turns_left g p) (sym place) falls)
 
-pub at-place : (end : ℕ) (stack : List FrameData) (at : ℕ) → at ≤ end → (place_of stack at).at ≤ end
-at-place end [] at h = h
-at-place end (x ∷ xs) at h = h
+pub at-place : (end : ℕ) (stack : List FrameData) (w : Spot) → w.at ≤ end → (place_of stack w).at ≤ end
+at-place end [] w h = h
+at-place end (x ∷ xs) w h = h

@@ -1,7 +1,6 @@
 -- A line as its start, its run and its tokens.
 use Rattle.std.proofs.Common.{◌≡◌, ℕ, ◌≤◌, ◌++◌, List, [], ◌∷◌, length, reverse, Some, Result, Ok, Err, refl, ap, sym, ◌∙◌, subst, arith, length-append}
 use Rattle.std.specs.Prelude.{slice_get, IsTrue, IfOk, IfErr}
-use Rattle.std.specs.List.{list_all}
 use Rattle.std.proofs.lemmas.List.{reverse-append, reverse-reverse}
 use Rattle.tm_defs.specs.declared.frames.FrameData.{FrameData}
 use Rattle.tm_defs.specs.declared.frames.StateId.{StateId}
@@ -18,16 +17,14 @@ use Rattle.tm_line_run.specs.declared.painter.Painted.{Painted}
 use Rattle.tm_line_run.proofs.Reach.{line_run-reach}
 use Rattle.tm_line_run.proofs.Runs.{runs-painted}
 use Rattle.tm_line.specs.Rules.{Rule}
-use Rattle.tm_line.specs.Advancing.{advances}
 use Rattle.tm_line.specs.Grammar.{rules_grammar}
 use Rattle.tm_meta.specs.Metadata.{metadata_of}
 use Rattle.tm_line.specs.Ran.{Ran, Tokenizes}
 use Rattle.tm_line.specs.Turned.{of_table}
 use Rattle.tm_line.proofs.Causes.{cause-more, of_table-cause}
 use Rattle.tm_line.specs.Setting.{Setting, setting_of}
-use Rattle.tm_line.specs.Tokenizing.{place_of, start_state, start_made, outcome_of, top_contents, rules_made, rules_cost}
-use Rattle.tm_line.proofs.Forward.{finds-forward}
-use Rattle.tm_line.proofs.Lines.{at-place}
+use Rattle.tm_line.specs.Tokenizing.{Spot, place_of, start_spot, start_state, start_made, outcome_of, top_contents, rules_made, rules_cost}
+use Rattle.tm_line.proofs.Found.{finds-within}
 use Rattle.tm_line.proofs.Turns.{some-push}
 
 module _ (rules : List Rule) (scope line text : List ℕ) (whole : text ≡ line ++ 10 ∷ []) (t u : Tables) (start : List FrameData) where
@@ -49,10 +46,11 @@ module _ (rules : List Rule) (scope line text : List ℕ) (whole : text ≡ line
   state-some state at = ap (λ l. some_open (reverse l)) (state_at-is u state (start_state scope start) at) ∙ start-some
 
   -- the run that the body makes is the line's
-  same-outcome : (state : StateId) → slice_get u.states state.0 ≡ Some (start_state scope start) → line_run (rules_grammar rules text) (place_of (reverse (state_at u state)) 0) ≡ all
-  same-outcome state at =
-      ap (λ l. line_run (rules_grammar rules text) (place_of (reverse l) 0)) (state_at-is u state (start_state scope start) at)
-      ∙ ap (λ l. line_run (rules_grammar rules l) (place_of (reverse (start_state scope start)) 0)) whole
+  same-outcome : (w : Spot) → w ≡ start_spot start → (state : StateId) → slice_get u.states state.0 ≡ Some (start_state scope start) → line_run (rules_grammar rules text) (place_of (reverse (state_at u state)) w) ≡ all
+  same-outcome w spot state at =
+      ap (λ v. line_run (rules_grammar rules text) (place_of (reverse (state_at u state)) v)) spot
+      ∙ ap (λ l. line_run (rules_grammar rules text) (place_of (reverse l) (start_spot start))) (state_at-is u state (start_state scope start) at)
+      ∙ ap (λ l. line_run (rules_grammar rules l) (place_of (reverse (start_state scope start)) (start_spot start))) whole
 
   pub start-err : (budget : ℕ) (cause : TableFault) (said : LineFault) → said ≡ of_table cause → GrowsWithin (start_made scope start) t u → IsFullForSome (start_made scope start) u cause →
       Tokenizes s start line t u budget (Err said)
@@ -63,11 +61,11 @@ module _ (rules : List Rule) (scope line text : List ℕ) (whole : text ≡ line
     cause = of_table-cause budget all.part.cost (rules_made s start line) u cause said e (full-first (start_made scope start) all.part.made u cause full);
   }
 
-  pub run-err : (v : Tables) (old new : List Painted) (budget left : ℕ) (state : StateId) (cause : LineFault) → slice_get u.states state.0 ≡ Some (start_state scope start) → GrowsWithin (start_made scope start) t u →
-      Ran (line_run (rules_grammar rules text) (place_of (reverse (state_at u state)) 0)) u v old new budget left (Err cause) → Tokenizes s start line t v budget (Err cause)
-  run-err v old new budget left state cause at h ran =
+  pub run-err : (w : Spot) → w ≡ start_spot start → (v : Tables) (old new : List Painted) (budget left : ℕ) (state : StateId) (cause : LineFault) → slice_get u.states state.0 ≡ Some (start_state scope start) → GrowsWithin (start_made scope start) t u →
+      Ran (line_run (rules_grammar rules text) (place_of (reverse (state_at u state)) w)) u v old new budget left (Err cause) → Tokenizes s start line t v budget (Err cause)
+  run-err w spot v old new budget left state cause at h ran =
       let P : Outcome → Type 0 = λ o. Ran o u v old new budget left (Err cause) in
-      let did = subst P (same-outcome state at) ran in
+      let did = subst P (same-outcome w spot state at) ran in
       record {
         tokens = tt;
         end = tt;
@@ -76,17 +74,17 @@ module _ (rules : List Rule) (scope line text : List ℕ) (whole : text ≡ line
       }
 
   -- what is painted is the line's, and reaches its end
-  module _ (wide : IsTrue (list_all advances rules)) (v : Tables) (old new : List Painted) (budget left : ℕ) (empty : old ≡ []) (state end : StateId) (at : slice_get u.states state.0 ≡ Some (start_state scope start))
-      (ran : Ran (line_run (rules_grammar rules text) (place_of (reverse (state_at u state)) 0)) u v old new budget left (Ok end)) where
+  module _ (w : Spot) (spot : w ≡ start_spot start) (v : Tables) (old new : List Painted) (budget left : ℕ) (empty : old ≡ []) (state end : StateId) (at : slice_get u.states state.0 ≡ Some (start_state scope start))
+      (ran : Ran (line_run (rules_grammar rules text) (place_of (reverse (state_at u state)) w)) u v old new budget left (Ok end)) where
     did : Ran all u v old new budget left (Ok end)
-    did = let P : Outcome → Type 0 = λ o. Ran o u v old new budget left (Ok end) in subst P (same-outcome state at) ran
+    did = let P : Outcome → Type 0 = λ o. Ran o u v old new budget left (Ok end) in subst P (same-outcome w spot state at) ran
 
     new-is : new ≡ painted metadata_of all.part.pieces
     new-is = did.pieces ∙ ap (λ l. l ++ painted metadata_of all.part.pieces) empty
 
     all-reach : length line ≤ furthest (painted metadata_of all.part.pieces)
     all-reach =
-        let reach = line_run-reach metadata_of (rules_grammar rules (line ++ 10 ∷ [])) (finds-forward rules (line ++ 10 ∷ []) wide) (place_of (reverse (start_state scope start)) 0) (at-place (length (line ++ 10 ∷ [])) (reverse (start_state scope start)) 0 (omega arith)) in
+        let reach = line_run-reach metadata_of (rules_grammar rules (line ++ 10 ∷ [])) (finds-within rules (line ++ 10 ∷ [])) (place_of (reverse (start_state scope start)) (start_spot start)) in
         omega (arith, reach, length-append line (10 ∷ []))
 
     pub run-reach : length line ≤ furthest new

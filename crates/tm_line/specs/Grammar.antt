@@ -35,9 +35,10 @@ names_of None = []
 -- a turn searches every candidate of the open rule
 abbrev pub rules_grammar : List Rule → List ℕ → Grammar
 rules_grammar rules text = record {
+  rules = length rules;
   end = length text;
-  winner = λ frame has_end at.
-      of_found rules (earliest_winner text at (flattened_candidates rules has_end frame.rule));
-  cost = λ frame has_end at. searches_cost text at (flattened_candidates rules has_end frame.rule);
+  winner = λ frame has_end at first anchored.
+      of_found rules (earliest_winner text at first anchored (flattened_candidates rules has_end frame.rule));
+  cost = λ frame has_end at first anchored. searches_cost text at first anchored (flattened_candidates rules has_end frame.rule);
   names = λ rule m. names_of (slice_get rules rule);
 }

@@ -1,4 +1,3 @@
-pub mod Advancing
 pub mod Example
 pub mod Grammar
 pub mod Ran

@@ -24,13 +24,14 @@ abbrev pub span_found : Option ℕ → Option (ℕ × ℕ) → Option Found
 span_found rule None = None
 span_found rule (Some span) = Some (record { candidate = rule; start = span.0; end = span.1 })
 
--- where a candidate is found in a text, from a place on; `\A` and `\G` match nowhere
-abbrev pub found : List ℕ → ℕ → Candidate → Option Found
-found text at c = span_found c.rule (whole_match (first_match c.pattern text at false false))
+-- where a candidate is found in a text, from a place on, where `\A` matches at 0 and `\G` at the place if they are
+-- allowed
+abbrev pub found : List ℕ → ℕ → Bool → Bool → Candidate → Option Found
+found text at allow_a allow_g c = span_found c.rule (whole_match (first_match c.pattern text at allow_a allow_g))
 
 -- the steps of that search
-abbrev pub found_cost : List ℕ → ℕ → Candidate → ℕ
-found_cost text at c = search_cost c.pattern text at false false
+abbrev pub found_cost : List ℕ → ℕ → Bool → Bool → Candidate → ℕ
+found_cost text at allow_a allow_g c = search_cost c.pattern text at allow_a allow_g
 
 -- the earlier of two, the first on a tie
 abbrev pub earlier : Option Found → Option Found → Option Found
@@ -39,14 +40,14 @@ earlier (Some a) None = Some a
 earlier (Some a) (Some b) = if nat_lt b.start a.start then Some b else Some a
 
 -- of a list of candidates the one that is found earliest, the first in the list on a tie
-abbrev pub earliest_winner : List ℕ → ℕ → List Candidate → Option Found
-earliest_winner text at [] = None
-earliest_winner text at (c ∷ cs) = earlier (found text at c) (earliest_winner text at cs)
+abbrev pub earliest_winner : List ℕ → ℕ → Bool → Bool → List Candidate → Option Found
+earliest_winner text at allow_a allow_g [] = None
+earliest_winner text at allow_a allow_g (c ∷ cs) = earlier (found text at allow_a allow_g c) (earliest_winner text at allow_a allow_g cs)
 
 -- the steps of the searches of all candidates of a list
-abbrev pub searches_cost : List ℕ → ℕ → List Candidate → ℕ
-searches_cost text at [] = 0
-searches_cost text at (c ∷ cs) = found_cost text at c + searches_cost text at cs
+abbrev pub searches_cost : List ℕ → ℕ → Bool → Bool → List Candidate → ℕ
+searches_cost text at allow_a allow_g [] = 0
+searches_cost text at allow_a allow_g (c ∷ cs) = found_cost text at allow_a allow_g c + searches_cost text at allow_a allow_g cs
 
 -- what a rule of this number contributes to a list: its own pattern. A list inside a list contributes
 -- nothing here, nor does a number without a rule

@@ -1,18 +1,34 @@
 -- What the tokenizing of a line by rules gives.
-use Rattle.std.specs.Prelude.{ℕ, List, [], ◌∷◌, ◌++◌, length, reverse, false}
+use Rattle.std.specs.Prelude.{ℕ, List, [], ◌∷◌, ◌++◌, length, reverse, Bool, false, not, Option, Some, None, if◌then◌else◌}
 use Rattle.tm_defs.specs.declared.frames.FrameData.{FrameData}
 use Rattle.tm_defs.specs.Tables.{TableEntries, none_made, more_made, only_state}
 use Rattle.tm_defs.specs.Tokenizer.{Tokenized}
-use Rattle.tm_line_run.specs.LineRun.{Place, Outcome, names_made, opened, line_run}
+use Rattle.tm_line_run.specs.LineRun.{Entry, Place, Outcome, some_open, names_made, opened, line_run}
 use Rattle.tm_line_run.specs.Painted.{scopes_at, runs_of}
 use Rattle.tm_line.specs.Grammar.{rules_grammar}
 use Rattle.tm_meta.specs.Metadata.{metadata_of}
 use Rattle.tm_line.specs.Setting.{Setting}
 
+-- where a line stands, but for its open rules
+pub record Spot : Type 0 where
+  pub at : ℕ
+  pub entries : List Entry
+  pub anchor : Option ℕ
+  pub first : Bool
+
 -- the place of open rules, the innermost first (no line has none)
-abbrev pub place_of : List FrameData → ℕ → Place
-place_of [] at = record { top = opened 0 [] false; below = []; at = at }
-place_of (f ∷ fs) at = record { top = f; below = fs; at = at }
+abbrev pub place_of : List FrameData → Spot → Place
+place_of [] w = record { top = opened 0 [] false; below = []; at = w.at; entries = w.entries; anchor = w.anchor; first = w.first }
+place_of (f ∷ fs) w = record { top = f; below = fs; at = w.at; entries = w.entries; anchor = w.anchor; first = w.first }
+
+-- the anchor is the line's start where the innermost rule began with the end of a line
+abbrev pub start_anchor : List FrameData → Option ℕ
+start_anchor [] = None
+start_anchor (f ∷ fs) = if f.at_eol then Some 0 else None
+
+-- at a line's start no open rule is of this line, and only the first line of a text is its beginning
+abbrev pub start_spot : List FrameData → Spot
+start_spot start = record { at = 0; entries = []; anchor = start_anchor (reverse start); first = not (some_open start) }
 
 -- the opening state stands for the one frame of the root, rule 0, with the grammar's scope pushed
 abbrev pub start_state : List ℕ → List FrameData → List FrameData
@@ -27,7 +43,7 @@ start_made scope (f ∷ fs) = none_made
 abbrev pub outcome_of : Setting → List FrameData → List ℕ → Outcome
 outcome_of s start line =
     let text = line ++ 10 ∷ [] in
-    line_run (rules_grammar s.rules text) (place_of (reverse (start_state s.scope start)) 0)
+    line_run (rules_grammar s.rules text) (place_of (reverse (start_state s.scope start)) (start_spot start))
 
 -- the content scopes of the innermost of open rules
 abbrev pub top_contents : List FrameData → List (List ℕ)

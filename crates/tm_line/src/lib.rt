@@ -18,10 +18,8 @@
 //! A start at which the search fails takes 1 step for the digit, and 2 for a row of two letters.
 #![tactic(auto)]
 
-ghost use Rattle.std.specs.Prelude.{◌≡◌, ◌∷◌, [], ℕ, List, IsTrue, codes};
-ghost use Rattle.std.specs.List.{list_all};
+ghost use Rattle.std.specs.Prelude.{◌≡◌, ◌∷◌, [], ℕ, Bool, true, false, List, codes};
 ghost use Rattle.tm_line_run.specs.Laws.{IsLineRun};
-ghost use Rattle.tm_line.specs.Advancing.{advances};
 ghost use Rattle.tm_line.specs.Example.{candidates, comment_from, example, in_comment, in_root, line, plain_from, rule_at, string_from, text};
 ghost use Rattle.tm_line.specs.Grammar.{rules_grammar};
 ghost use Rattle.tm_line.specs.Rules.{Rule};
@@ -37,24 +35,24 @@ mod tables;
 mod tests;
 pub mod tokenizer;
 mod turn;
+mod way;
 
-/// Under rules whose matches advance a line has exactly one outcome.
+/// A line has exactly one outcome, whatever its rules.
 pub fn one_outcome()
-    ensures { (rules : List Rule) (text : List ℕ) → IsTrue (list_all advances rules) →
-        IsLineRun (rules_grammar rules text) }
+    ensures { (rules : List Rule) (text : List ℕ) → IsLineRun (rules_grammar rules text) }
 {}
 
 /// The winner is found earliest of its candidates, and is the first in the list of those found there.
 pub fn earliest_candidate()
-    ensures { (text : List ℕ) (at : ℕ) (cs : List Candidate) → IsEarliest text at cs }
+    ensures { (text : List ℕ) (at : ℕ) (allow_a allow_g : Bool) (cs : List Candidate) → IsEarliest text at allow_a allow_g cs }
 {}
 
 /// The first two turns of the table at the head of this module, computed by the definitions.
 pub fn worked_searches()
-    ensures first { earliest_winner text 0 candidates ≡ rule_at 1 0 1 }
-    ensures first_cost { searches_cost text 0 candidates ≡ 10 }
-    ensures next { earliest_winner text 1 candidates ≡ rule_at 2 2 4 }
-    ensures next_cost { searches_cost text 1 candidates ≡ 11 }
+    ensures first { earliest_winner text 0 true false candidates ≡ rule_at 1 0 1 }
+    ensures first_cost { searches_cost text 0 true false candidates ≡ 10 }
+    ensures next { earliest_winner text 1 false false candidates ≡ rule_at 2 2 4 }
+    ensures next_cost { searches_cost text 1 false false candidates ≡ 11 }
 {}
 
 /// Lines of the grammar at the head of this module, computed by the definitions: the line of the table,

@@ -1,15 +1,16 @@
 //! The turns of a line, one after the other, until it stops.
-ghost use Rattle.std.specs.Prelude.{◌<◌, ◌^◌, length, reverse, IsTrue};
+ghost use Rattle.std.specs.Prelude.{◌<◌, ◌≤◌, ◌^◌, length, reverse, IsTrue};
 ghost use Rattle.tm_defs.specs.Tables.{state_at};
-ghost use Rattle.tm_line_run.specs.Laws.{FindsForward};
 ghost use Rattle.tm_line_run.specs.LineRun.{some_open, line_run};
 ghost use Rattle.tm_line.specs.Grammar.{rules_grammar};
 ghost use Rattle.tm_line.specs.Ran.{Ran};
 ghost use Rattle.tm_line.specs.Rules.{rules_data};
 ghost use Rattle.tm_line.specs.Tokenizing.{place_of};
+ghost use Rattle.tm_line.specs.Turned.{spot_of};
 
 use crate::rules::Rule;
 use crate::turn::{Next, turn};
+use crate::way::Way;
 use std::alloc::Global;
 use tm_defs::frames::StateId;
 use tm_defs::tables::States;
@@ -17,9 +18,9 @@ use tm_defs::texts::Line;
 use tm_defs::tokenizer::LineFault;
 use tm_line_run::painter::Painted;
 
-/// A text from a state on: what is painted is added to `pieces`, and the result is the state behind
-/// the text. Each turn that goes on leaves fewer
-/// characters, and all searches take from one budget, which is in steps.
+/// A text from a state and a way on: what is painted is added to `pieces`, and the result is the state
+/// behind the text. Each turn that goes on leaves fewer turns, and all searches take from one budget, which
+/// is in steps.
 pub fn run<S: States>(
     alloc: Global,
     table: &mut S,
@@ -27,25 +28,22 @@ pub fn run<S: States>(
     rules: &[Rule],
     text: &Line,
     start: StateId,
+    way: &mut Way,
     budget: &mut u64,
 ) -> Result<StateId, LineFault>
     requires start { start.0 < length (S.tables table.old).states }
     requires some { IsTrue (some_open (reverse (state_at (S.tables table.old) start))) }
-    requires forward { FindsForward (rules_grammar (rules_data rules.now) text.now) }
+    requires within { way.old.at ≤ length text.now }
     requires small { length text.now < 2 ^ 31 }
-    ensures { let p = place_of (reverse (state_at (S.tables table.old) start)) 0 in
+    ensures { let p = place_of (reverse (state_at (S.tables table.old) start)) (spot_of way.old) in
         Ran (line_run (rules_grammar (rules_data rules.now) text.now) p)
         (S.tables table.old) (S.tables table.new) pieces.old.items pieces.new.items
         budget.old budget.new result }
 {
     let mut state = start;
-    let mut at = 0;
     loop {
-        match turn(alloc, table, pieces, rules, text, state, at, budget) {
-            Ok(Next::GoesOn(next, place)) => {
-                state = next;
-                at = place;
-            }
+        match turn(alloc, table, pieces, rules, text, state, way, budget) {
+            Ok(Next::GoesOn(next)) => state = next,
             Ok(Next::Stops(end)) => return Ok(end),
             Err(fault) => return Err(fault),
         }

@@ -18,6 +18,13 @@ use tm_defs::texts::Line;
 use tm_onig_vm::fault::FindFault;
 use tm_onig_vm::program::{Prog, find};
 
+/// Which of the places `\A` and `\G` a search allows.
+#[derive(Clone, Copy, Debug, PartialEq, Eq)]
+pub struct Anchors {
+    pub allow_a: bool,
+    pub allow_g: bool,
+}
+
 /// Start and end of the whole match.
 fn whole(caps: &Caps) -> Option<(u32, u32)>
     ensures { result ≡ whole_match (Some caps.now) }
@@ -49,14 +56,23 @@ fn found_from(
     pattern: &Prog,
     text: &Line,
     at: usize,
+    anchors: Anchors,
     budget: &mut u64,
 ) -> Result<Option<Found>, FindFault>
     requires within { at ≤ length text.now }
     requires small { length text.now < 2 ^ 31 }
     ensures { let c = candidate_of candidate (tree_of pattern.now) in
-        Searches (found text.now at c) (found_cost text.now at c) budget.old budget.new result }
+        Searches (found text.now at anchors.allow_a anchors.allow_g c) (found_cost text.now at anchors.allow_a anchors.allow_g c) budget.old budget.new result }
 {
-    match find(alloc, pattern, text, at as u32, false, false, budget) {
+    match find(
+        alloc,
+        pattern,
+        text,
+        at as u32,
+        anchors.allow_a,
+        anchors.allow_g,
+        budget,
+    ) {
         Ok(Some(caps)) => Ok(found_in(candidate, &caps)),
         Ok(None) => Ok(None),
         Err(fault) => Err(fault),
@@ -80,18 +96,19 @@ fn start_of(
     rules: &[Rule],
     text: &Line,
     at: usize,
+    anchors: Anchors,
     n: u32,
     budget: &mut u64,
 ) -> Result<Option<Found>, FindFault>
     requires within { at ≤ length text.now }
     requires small { length text.now < 2 ^ 31 }
     ensures { let cs = contributed n (slice_get (rules_data rules.now) n) in
-        Searches (earliest_winner text.now at cs) (searches_cost text.now at cs)
+        Searches (earliest_winner text.now at anchors.allow_a anchors.allow_g cs) (searches_cost text.now at anchors.allow_a anchors.allow_g cs)
         budget.old budget.new result }
 {
     match rule_at(rules, n) {
         Some(Rule::Match { pattern, name: _ }) => {
-            found_from(alloc, Some(n), pattern, text, at, budget)
+            found_from(alloc, Some(n), pattern, text, at, anchors, budget)
         }
         Some(
             Rule::BeginEnd {
@@ -100,7 +117,7 @@ fn start_of(
                 name: _,
                 patterns: _,
             },
-        ) => found_from(alloc, Some(n), begin, text, at, budget),
+        ) => found_from(alloc, Some(n), begin, text, at, anchors, budget),
         Some(Rule::Only { patterns: _ }) => Ok(None),
         None => Ok(None),
     }
@@ -112,6 +129,7 @@ fn earliest_start(
     rules: &[Rule],
     text: &Line,
     at: usize,
+    anchors: Anchors,
     best: Option<Found>,
     patterns: &Numbers,
     budget: &mut u64,
@@ -119,13 +137,13 @@ fn earliest_start(
     requires within { at ≤ length text.now }
     requires small { length text.now < 2 ^ 31 }
     ensures { let cs = listed_candidates (rules_data rules.now) patterns.now in
-        Searches (earlier best (earliest_winner text.now at cs)) (searches_cost text.now at cs)
+        Searches (earlier best (earliest_winner text.now at anchors.allow_a anchors.allow_g cs)) (searches_cost text.now at anchors.allow_a anchors.allow_g cs)
         budget.old budget.new result }
 {
     let mut first = best;
     let numbers = patterns.as_slice();
     for n in numbers {
-        match start_of(alloc, rules, text, at, *n, budget) {
+        match start_of(alloc, rules, text, at, anchors, *n, budget) {
             Ok(start) => first = earlier_of(first, start),
             Err(fault) => return Err(fault),
         }
@@ -138,6 +156,7 @@ fn end_of(
     alloc: Global,
     text: &Line,
     at: usize,
+    anchors: Anchors,
     has_end: bool,
     end: &Prog,
     budget: &mut u64,
@@ -145,11 +164,11 @@ fn end_of(
     requires within { at ≤ length text.now }
     requires small { length text.now < 2 ^ 31 }
     ensures { let cs = end_candidate has_end (tree_of end.now) in
-        Searches (earliest_winner text.now at cs) (searches_cost text.now at cs)
+        Searches (earliest_winner text.now at anchors.allow_a anchors.allow_g cs) (searches_cost text.now at anchors.allow_a anchors.allow_g cs)
         budget.old budget.new result }
 {
     if has_end {
-        found_from(alloc, None, end, text, at, budget)
+        found_from(alloc, None, end, text, at, anchors, budget)
     } else {
         Ok(None)
     }
@@ -163,6 +182,7 @@ pub fn winner(
     rules: &[Rule],
     text: &Line,
     at: usize,
+    anchors: Anchors,
     has_end: bool,
     rule: u32,
     budget: &mut u64,
@@ -170,7 +190,7 @@ pub fn winner(
     requires within { at ≤ length text.now }
     requires small { length text.now < 2 ^ 31 }
     ensures { let cs = flattened_candidates (rules_data rules.now) has_end rule in
-        Searches (earliest_winner text.now at cs) (searches_cost text.now at cs)
+        Searches (earliest_winner text.now at anchors.allow_a anchors.allow_g cs) (searches_cost text.now at anchors.allow_a anchors.allow_g cs)
         budget.old budget.new result }
 {
     match rule_at(rules, rule) {
@@ -181,12 +201,12 @@ pub fn winner(
                 name: _,
                 patterns,
             },
-        ) => match end_of(alloc, text, at, has_end, end, budget) {
-            Ok(best) => earliest_start(alloc, rules, text, at, best, patterns, budget),
+        ) => match end_of(alloc, text, at, anchors, has_end, end, budget) {
+            Ok(best) => earliest_start(alloc, rules, text, at, anchors, best, patterns, budget),
             Err(fault) => Err(fault),
         },
         Some(Rule::Only { patterns }) => {
-            earliest_start(alloc, rules, text, at, None, patterns, budget)
+            earliest_start(alloc, rules, text, at, anchors, None, patterns, budget)
         }
         Some(
             Rule::Match {

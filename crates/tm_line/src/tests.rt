@@ -1,7 +1,4 @@
 ghost use Rattle.std.specs.Prelude.{◌≡◌, ◌<◌, ◌-◌, ◌^◌, [], length, IfOk, IsTrue};
-ghost use Rattle.std.specs.List.{list_all};
-ghost use Rattle.tm_line.specs.Advancing.{advances};
-ghost use Rattle.tm_line.specs.Rules.{rules_data};
 ghost use Rattle.tm_line.specs.Setting.{setting_data};
 ghost use Rattle.tm_line.specs.Tokenizing.{rules_tokenized};
 
@@ -111,10 +108,7 @@ fn text(alloc: Global, chars: &str) -> Result<Vec<char>, Fail> {
 }
 
 /// A list whose only rule matches `b` without a name.
-#[tactic(auto, using(tm_onig_class::proofs::Trees::nodes), unfolding(tm_onig_class::specs::Widths::least_width))]
-fn bare_rules(alloc: Global) -> Result<Vec<Rule>, Fail>
-    ensures { IfOk result (λ rules. IsTrue (list_all advances (rules_data rules.items))) }
-{
+fn bare_rules(alloc: Global) -> Result<Vec<Rule>, Fail> {
     let letter = Pattern::Char {
         c: 'b',
         fold: false,

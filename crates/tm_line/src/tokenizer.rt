@@ -1,20 +1,20 @@
 //! The tokenizer of rules of patterns.
-ghost use Rattle.std.specs.Prelude.{◌≡◌, ◌≤◌, ◌<◌, ◌^◌, ◌-◌, ◌++◌, ◌∷◌, [], length, IfOk, IfErr, slice_get, Some, IsTrue, reverse};
-ghost use Rattle.std.specs.List.{list_all};
+ghost use Rattle.std.specs.Prelude.{◌≡◌, ◌≤◌, ◌<◌, ◌^◌, ◌-◌, ◌++◌, ◌∷◌, [], length, IfOk, IfErr, slice_get, Some, reverse};
 ghost use Rattle.tm_defs.specs.Tables.{GrowsWithin, IsFullForSome, state_at};
 ghost use Rattle.tm_defs.specs.declared.tokenizer.LineFault.TheVariants as fault;
 ghost use Rattle.tm_line_run.specs.Painted.{furthest, meta_at, runs_of};
-ghost use Rattle.tm_line.specs.Advancing.{advances};
 ghost use Rattle.tm_meta.specs.Metadata.{metadata_of};
 ghost use Rattle.tm_line.specs.Ran.{Tokenizes};
 ghost use Rattle.tm_line.specs.Rules.{rules_data};
 ghost use Rattle.tm_line.specs.Setting.{setting_of, setting_data};
-ghost use Rattle.tm_line.specs.Tokenizing.{start_state, start_made, top_contents};
+ghost use Rattle.tm_line.specs.Tokenizing.{start_spot, start_state, start_made, top_contents};
+ghost use Rattle.tm_line.specs.Turned.{spot_of};
 
 use crate::rules::Rule;
 use crate::run::run;
 use crate::tables::{longer_list, push_frame};
 use crate::turn::table_fault;
+use crate::way::Way;
 use std::alloc::{AllocError, Global};
 use std::marker::Model;
 use std::sync::ledger::Ledger;
@@ -26,7 +26,7 @@ use tm_defs::tokenizer::{LineFault, LineOut, LineTok};
 use tm_line_run::painter::{Painted, tokens_of};
 use tm_meta::metadata::{base_metadata, metadata};
 
-/// A setting. Rule 0 is the root, and each match of a pattern takes a character.
+/// A setting. Rule 0 is the root.
 #[derive(Drop)]
 pub struct Setting {
     scope: Name,
@@ -36,27 +36,20 @@ pub struct Setting {
 
 impl Model for Setting {
     ghost use Rattle.std.specs.Coded.{codes};
-    ghost use Rattle.std.specs.Prelude.{IsTrue};
-    ghost use Rattle.std.specs.List.{list_all};
     ghost use Rattle.tm_onig_class.specs.contracts.patterns.Pattern as pattern;
     ghost use Rattle.tm_line.specs.Setting.{BuiltSetting};
-    ghost use Rattle.tm_line.specs.Rules.{rules_data};
-    ghost use Rattle.tm_line.specs.Advancing.{advances};
 
     ghost Value = { BuiltSetting };
 
     ghost coded = { Prim.hlevel (codes, pattern.the_row.coded) };
 
     ghost view = { λ a. record { scope = a.scope; rules = a.rules.items } };
-
-    ghost invariant = { λ a. IsTrue (list_all advances (rules_data a.rules.items)) };
 }
 
 impl Setting {
     /// A setting of these rules. `scope` is the grammar's scope, which every token has; each line takes
     /// its buffers from `alloc`.
     pub fn build(alloc: Global, scope: Name, rules: Vec<Rule>) -> Self
-        requires wide { IsTrue (list_all advances (rules_data rules.items)) }
         ensures { setting_data result ≡ setting_of scope (rules_data rules.items) }
     {
         Setting {
@@ -132,6 +125,29 @@ fn finished<S: States>(
     Ok(LineOut { tokens, end })
 }
 
+/// The way at a line's start. Only the opening state is the start of a text, and the anchor is the start
+/// of the line where the innermost rule began with the end of a line.
+fn start_way<S: States>(alloc: Global, table: &S, start: StateId) -> Way
+    requires { start.0 < length (S.tables table.now).states }
+    ensures { spot_of result ≡ start_spot (state_at (S.tables table.now) start) }
+{
+    let entries = Vec::new(alloc);
+    match table.top(start) {
+        Some((frame, _)) => Way {
+            at: 0,
+            entries,
+            anchor: if frame.at_eol { Some(0) } else { None },
+            first: false,
+        },
+        None => Way {
+            at: 0,
+            entries,
+            anchor: None,
+            first: true,
+        },
+    }
+}
+
 /// A line from a state.
 fn tokenized_line<S: States>(
     alloc: Global,
@@ -144,7 +160,6 @@ fn tokenized_line<S: States>(
 ) -> Result<LineOut, LineFault>
     requires start { start.0 < length (S.tables table.old).states }
     requires short { length line.now < 2 ^ 31 - 1 }
-    requires wide { IsTrue (list_all advances (rules_data rules.now)) }
     ensures { Tokenizes (setting_of scope.now (rules_data rules.now)) (state_at (S.tables table.old) start) line.now
         (S.tables table.old) (S.tables table.new) budget result }
 {
@@ -152,13 +167,23 @@ fn tokenized_line<S: States>(
         return Err(LineFault::OutOfMemory);
     };
     let text = Line::new(chars);
+    let mut way = start_way(alloc, table, start);
     let state = match start_of(table, scope, start) {
         Ok(state) => state,
         Err(fault) => return Err(table_fault(fault)),
     };
     let mut pieces = Vec::new(alloc);
     let mut left = budget;
-    match run(alloc, table, &mut pieces, rules, &text, state, &mut left) {
+    match run(
+        alloc,
+        table,
+        &mut pieces,
+        rules,
+        &text,
+        state,
+        &mut way,
+        &mut left,
+    ) {
         Ok(end) => finished(alloc, table, pieces.as_slice(), line.as_slice().len(), end),
         Err(fault) => Err(fault),
     }

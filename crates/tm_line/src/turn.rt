@@ -5,19 +5,22 @@
 //! function here.
 ghost use Rattle.std.specs.Prelude.{◌≡◌, ◌<◌, ◌≤◌, ◌++◌, ◌∷◌, ◌==◌, ◌^◌, [], length, IfOk, OnOk, IfErr, slice_get, Some, reverse, IsTrue};
 ghost use Rattle.std.specs.Option.{option_to_list};
-ghost use Rattle.tm_defs.specs.Tables.{GrowsWithin, IsFullForSome, path_at, state_at, more_made, only_state};
+ghost use Rattle.tm_defs.specs.Tables.{GrowsWithin, IsFullForSome, path_at, state_at, frame_at, only_state};
 ghost use Rattle.tm_defs.specs.declared.tables.TableFault.TheVariants as fault;
 ghost use Rattle.tm_line_run.specs.Painted.{painted};
-ghost use Rattle.tm_line_run.specs.LineRun.{names_made, opened, paints, some_open, rests, ended, matched, begun, turn as turn_at};
+ghost use Rattle.tm_line_run.specs.LineRun.{names_made, opened, closing, piece, popped, popped_contents, paints, some_open, rests, ended, matched, begun, turn as turn_at};
 ghost use Rattle.tm_line.specs.Grammar.{match_of, rules_grammar};
 ghost use Rattle.tm_meta.specs.Metadata.{metadata_of};
 ghost use Rattle.tm_line.specs.Rules.{rules_data};
-ghost use Rattle.tm_line.specs.Tokenizing.{place_of};
-ghost use Rattle.tm_line.specs.Turned.{Does, IsHere, Takes, of_search, of_table, place_here, taken_turn, turn_of};
+ghost use Rattle.tm_line.specs.Tokenizing.{Spot, place_of};
+ghost use Rattle.tm_line.specs.Turned.{Does, GoesOnAt, IsHere, StopsAt, Takes, entered_spot, of_search, of_table, place_here, spot_of, taken_turn, turn_of};
 
 use crate::rules::{Found, Rule};
-use crate::search::{rule_at, winner};
+use crate::search::{Anchors, rule_at, winner};
 use crate::tables::{named_list, push_frame};
+use crate::way::{
+    Way, advances, enters, goes_on, is_anchored, is_stuck_begin, is_stuck_end, leaves,
+};
 use std::alloc::Global;
 use tm_defs::frames::{Frame, ScopeList, StateId};
 use tm_defs::tables::{States, TableFault};
@@ -27,21 +30,19 @@ use tm_line_run::painter::Painted;
 use tm_meta::metadata::paint;
 use tm_onig_vm::fault::FindFault;
 
-/// Where a line stands: its state, that state's innermost frame and the state without it, and the
-/// position in characters.
+/// A state, its innermost frame, and the state without it.
 #[derive(Clone, Copy, Debug, PartialEq, Eq)]
 pub struct Here {
     pub state: StateId,
     pub frame: Frame,
     pub below: StateId,
-    pub at: usize,
 }
 
-/// What follows a turn: the line stops in a state, or goes on in a state and at a position.
+/// What follows a turn: the line stops in a state, or goes on in a state.
 #[derive(Clone, Copy, Debug, PartialEq, Eq)]
 pub enum Next {
     Stops(StateId),
-    GoesOn(StateId, usize),
+    GoesOn(StateId),
 }
 
 /// Paints the one list up to what was found, and the other over it.
@@ -102,43 +103,6 @@ fn paint_named<S: States>(
     }
 }
 
-/// The state with the frame of a rule that begins, whose begin is painted.
-fn begin<S: States>(
-    table: &mut S,
-    pieces: &mut Vec<Painted>,
-    state: StateId,
-    outer: ScopeList,
-    rule: u32,
-    name: &Option<Name>,
-    found: Found,
-    len: usize,
-) -> Result<StateId, TableFault>
-    requires state { state.0 < length (S.tables table.old).states }
-    requires outer { outer.0 < length (S.tables table.old).paths }
-    ensures ok { let names = option_to_list name.now in
-        let frame = opened rule (path_at (S.tables table.old) outer ++ names) (found.end == len) in
-        IfOk result (λ id. slice_get (S.tables table.new).states id.0 ≡
-        Some (state_at (S.tables table.old) state ++ frame ∷ [])) }
-    ensures pieces { let path = path_at (S.tables table.old) outer in
-        let names = option_to_list name.now in
-        OnOk result (pieces.new.items ≡
-        pieces.old.items ++ painted metadata_of (paints path (path ++ names) (match_of found))) }
-    ensures grows { let names = option_to_list name.now in
-        let frame = opened rule (path_at (S.tables table.old) outer ++ names) (found.end == len) in
-        GrowsWithin (more_made (names_made (path_at (S.tables table.old) outer) names)
-        (only_state (state_at (S.tables table.old) state ++ frame ∷ [])))
-        (S.tables table.old) (S.tables table.new) }
-    ensures full { let names = option_to_list name.now in
-        let frame = opened rule (path_at (S.tables table.old) outer ++ names) (found.end == len) in
-        IfErr result (IsFullForSome (more_made (names_made (path_at (S.tables table.old) outer) names)
-        (only_state (state_at (S.tables table.old) state ++ frame ∷ []))) (S.tables table.new)) }
-{
-    match paint_named(table, pieces, outer, name, found) {
-        Ok(path) => push_frame(table, state, path, rule, found.end == len),
-        Err(fault) => Err(fault),
-    }
-}
-
 /// Nothing is found: the line stops. `len` is the text's length with its line break.
 fn rest<S: States>(
     table: &S,
@@ -148,7 +112,7 @@ fn rest<S: States>(
 ) -> Result<Next, TableFault>
     requires { IsHere (S.tables table.now) here }
     ensures { let t = S.tables table.now in
-        Does (rests len (place_here t here)) t t pieces.old.items pieces.new.items result }
+        (w v : Spot) → Does (rests len (place_here t here w)) t t pieces.old.items pieces.new.items v result }
 {
     let Ok(()) = paint(table, pieces, here.frame.contents, len) else {
         return Err(TableFault::OutOfMemory);
@@ -156,19 +120,50 @@ fn rest<S: States>(
     Ok(Next::Stops(here.state))
 }
 
+/// An end that would come again without end: the line stops in the rule, with its name scopes as content
+/// scopes.
+fn stuck_end<S: States>(
+    table: &mut S,
+    pieces: &mut Vec<Painted>,
+    here: Here,
+    len: usize,
+) -> Result<Next, TableFault>
+    requires { IsHere (S.tables table.old) here }
+    ensures pieces { let names = path_at (S.tables table.old) here.frame.names in
+        OnOk result (pieces.new.items ≡ pieces.old.items ++ painted metadata_of (piece len names ∷ [])) }
+    ensures ok { let frame = closing (frame_at (S.tables table.old) here.frame) in
+        IfOk result (λ next. StopsAt (S.tables table.new) (state_at (S.tables table.old) here.below ++ frame ∷ []) next) }
+    ensures grows { let frame = closing (frame_at (S.tables table.old) here.frame) in
+        GrowsWithin (only_state (state_at (S.tables table.old) here.below ++ frame ∷ [])) (S.tables table.old) (S.tables table.new) }
+    ensures full { let frame = closing (frame_at (S.tables table.old) here.frame) in
+        IfErr result (IsFullForSome (only_state (state_at (S.tables table.old) here.below ++ frame ∷ [])) (S.tables table.new)) }
+{
+    let Ok(()) = paint(table, pieces, here.frame.names, len) else {
+        return Err(TableFault::OutOfMemory);
+    };
+    let frame = Frame {
+        contents: here.frame.names,
+        ..here.frame
+    };
+    match table.intern(frame, here.below) {
+        Ok(state) => Ok(Next::Stops(state)),
+        Err(fault) => Err(fault),
+    }
+}
+
 /// The end of the open rule is found: it is painted with the name scopes, and the frame holds up to
 /// behind it. A rule with no frame below has no end.
 fn ends<S: States>(
-    table: &S,
+    table: &mut S,
     pieces: &mut Vec<Painted>,
     here: Here,
+    way: &mut Way,
     found: Found,
     len: usize,
 ) -> Result<Next, TableFault>
-    requires { IsHere (S.tables table.now) here }
-    ensures { let t = S.tables table.now in
-        let p = place_here t here in
-        Does (ended len p (match_of found) p.below) t t pieces.old.items pieces.new.items result }
+    requires { IsHere (S.tables table.old) here }
+    ensures { let p = place_here (S.tables table.old) here (spot_of way.old) in
+        Does (ended len p (match_of found) p.below) (S.tables table.old) (S.tables table.new) pieces.old.items pieces.new.items (spot_of way.new) result }
 {
     if !has_frames(table, here.below) {
         return rest(table, pieces, here, len);
@@ -176,7 +171,36 @@ fn ends<S: States>(
     let Ok(()) = paint_both(table, pieces, here.frame.contents, here.frame.names, found) else {
         return Err(TableFault::OutOfMemory);
     };
-    Ok(Next::GoesOn(here.below, found.end))
+    if is_stuck_end(way, found.end) {
+        return stuck_end(table, pieces, here, len);
+    }
+    leaves(way, found.end);
+    Ok(Next::GoesOn(here.below))
+}
+
+/// A match that would come again without end: the line stops without the innermost rule, if there is one
+/// around it.
+fn stuck_match<S: States>(
+    table: &S,
+    pieces: &mut Vec<Painted>,
+    here: Here,
+    len: usize,
+) -> Result<Next, TableFault>
+    requires { IsHere (S.tables table.now) here }
+    ensures pieces { let t = S.tables table.now in
+        OnOk result (pieces.new.items ≡ pieces.old.items ++ painted metadata_of (piece len (popped_contents (frame_at t here.frame) (reverse (state_at t here.below))) ∷ [])) }
+    ensures ok { let t = S.tables table.now in
+        IfOk result (λ next. StopsAt t (reverse (popped (frame_at t here.frame) (reverse (state_at t here.below)))) next) }
+    ensures err { IfErr result (λ cause. cause ≡ fault.OutOfMemory) }
+{
+    let (contents, state) = match table.top(here.below) {
+        Some((frame, _)) => (frame.contents, here.below),
+        None => (here.frame.contents, here.state),
+    };
+    let Ok(()) = paint(table, pieces, contents, len) else {
+        return Err(TableFault::OutOfMemory);
+    };
+    Ok(Next::Stops(state))
 }
 
 /// A rule matches.
@@ -184,48 +208,86 @@ fn matches<S: States>(
     table: &mut S,
     pieces: &mut Vec<Painted>,
     here: Here,
+    way: &mut Way,
     found: Found,
     name: &Option<Name>,
+    len: usize,
 ) -> Result<Next, TableFault>
     requires { IsHere (S.tables table.old) here }
-    ensures { let p = place_here (S.tables table.old) here in
-        Does (matched p (match_of found) (option_to_list name.now))
-        (S.tables table.old) (S.tables table.new) pieces.old.items pieces.new.items result }
+    ensures { let p = place_here (S.tables table.old) here (spot_of way.old) in
+        Does (matched len p (match_of found) (option_to_list name.now))
+        (S.tables table.old) (S.tables table.new) pieces.old.items pieces.new.items (spot_of way.new) result }
 {
-    match paint_named(table, pieces, here.frame.contents, name, found) {
-        Ok(_) => Ok(Next::GoesOn(here.state, found.end)),
+    if let Err(fault) = paint_named(table, pieces, here.frame.contents, name, found) {
+        return Err(fault);
+    }
+    if !advances(way, found.end) {
+        return stuck_match(table, pieces, here, len);
+    }
+    goes_on(way, found.end);
+    Ok(Next::GoesOn(here.state))
+}
+
+/// A rule begins, and its begin is painted.
+fn opens<S: States>(
+    table: &mut S,
+    state: StateId,
+    way: &mut Way,
+    path: ScopeList,
+    rule: u32,
+    found: Found,
+    len: usize,
+) -> Result<Next, TableFault>
+    requires state { state.0 < length (S.tables table.old).states }
+    requires path { path.0 < length (S.tables table.old).paths }
+    ensures ok { let frame = opened rule (path_at (S.tables table.old) path) (found.end == len) in
+        IfOk result (λ next. GoesOnAt (S.tables table.new) (state_at (S.tables table.old) state ++ frame ∷ []) next) }
+    ensures way { let old = spot_of way.old in
+        OnOk result (spot_of way.new ≡ entered_spot old rule found.end) }
+    ensures grows { let frame = opened rule (path_at (S.tables table.old) path) (found.end == len) in
+        GrowsWithin (only_state (state_at (S.tables table.old) state ++ frame ∷ [])) (S.tables table.old) (S.tables table.new) }
+    ensures full { let frame = opened rule (path_at (S.tables table.old) path) (found.end == len) in
+        IfErr result (IsFullForSome (only_state (state_at (S.tables table.old) state ++ frame ∷ [])) (S.tables table.new)) }
+{
+    match push_frame(table, state, path, rule, found.end == len) {
+        Ok(next) => {
+            let Ok(()) = enters(way, rule, found.end) else {
+                return Err(TableFault::OutOfMemory);
+            };
+            Ok(Next::GoesOn(next))
+        }
         Err(fault) => Err(fault),
     }
 }
 
-/// A rule begins.
+/// A rule begins. A begin that would come again without end leaves the open rules as they are, and the
+/// line stops.
 fn begins<S: States>(
     table: &mut S,
     pieces: &mut Vec<Painted>,
     here: Here,
+    way: &mut Way,
     found: Found,
     rule: u32,
     name: &Option<Name>,
     len: usize,
 ) -> Result<Next, TableFault>
     requires { IsHere (S.tables table.old) here }
-    ensures { let p = place_here (S.tables table.old) here in
+    ensures { let p = place_here (S.tables table.old) here (spot_of way.old) in
         Does (begun len p rule (match_of found) (option_to_list name.now))
-        (S.tables table.old) (S.tables table.new) pieces.old.items pieces.new.items result }
+        (S.tables table.old) (S.tables table.new) pieces.old.items pieces.new.items (spot_of way.new) result }
 {
-    match begin(
-        table,
-        pieces,
-        here.state,
-        here.frame.contents,
-        rule,
-        name,
-        found,
-        len,
-    ) {
-        Ok(next) => Ok(Next::GoesOn(next, found.end)),
-        Err(fault) => Err(fault),
+    let path = match paint_named(table, pieces, here.frame.contents, name, found) {
+        Ok(path) => path,
+        Err(fault) => return Err(fault),
+    };
+    if is_stuck_begin(way, rule, found.end) {
+        let Ok(()) = paint(table, pieces, here.frame.contents, len) else {
+            return Err(TableFault::OutOfMemory);
+        };
+        return Ok(Next::Stops(here.state));
     }
+    opens(table, here.state, way, path, rule, found, len)
 }
 
 /// The rule of a number is found.
@@ -234,17 +296,20 @@ fn starts<S: States>(
     pieces: &mut Vec<Painted>,
     rules: &[Rule],
     here: Here,
+    way: &mut Way,
     found: Found,
     n: u32,
     len: usize,
 ) -> Result<Next, TableFault>
     requires { IsHere (S.tables table.old) here }
-    ensures { let p = place_here (S.tables table.old) here in
+    ensures { let p = place_here (S.tables table.old) here (spot_of way.old) in
         Does (turn_of len p found n (slice_get (rules_data rules.now) n))
-        (S.tables table.old) (S.tables table.new) pieces.old.items pieces.new.items result }
+        (S.tables table.old) (S.tables table.new) pieces.old.items pieces.new.items (spot_of way.new) result }
 {
     match rule_at(rules, n) {
-        Some(Rule::Match { pattern: _, name }) => matches(table, pieces, here, found, name),
+        Some(Rule::Match { pattern: _, name }) => {
+            matches(table, pieces, here, way, found, name, len)
+        }
         Some(
             Rule::BeginEnd {
                 begin: _,
@@ -252,7 +317,7 @@ fn starts<S: States>(
                 name,
                 patterns: _,
             },
-        ) => begins(table, pieces, here, found, n, name, len),
+        ) => begins(table, pieces, here, way, found, n, name, len),
         Some(Rule::Only { patterns: _ }) => rest(table, pieces, here, len),
         None => rest(table, pieces, here, len),
     }
@@ -293,24 +358,26 @@ fn taken<S: States>(
     pieces: &mut Vec<Painted>,
     rules: &[Rule],
     here: Here,
+    way: &mut Way,
     winner: Option<Found>,
     len: usize,
 ) -> Result<Next, TableFault>
     requires { IsHere (S.tables table.old) here }
-    ensures { let p = place_here (S.tables table.old) here in
+    ensures { let p = place_here (S.tables table.old) here (spot_of way.old) in
         Does (taken_turn (rules_data rules.now) len p winner)
-        (S.tables table.old) (S.tables table.new) pieces.old.items pieces.new.items result }
+        (S.tables table.old) (S.tables table.new) pieces.old.items pieces.new.items (spot_of way.new) result }
 {
     match winner {
         Some(found) => match found.candidate {
-            Some(n) => starts(table, pieces, rules, here, found, n, len),
-            None => ends(table, pieces, here, found, len),
+            Some(n) => starts(table, pieces, rules, here, way, found, n, len),
+            None => ends(table, pieces, here, way, found, len),
         },
         None => rest(table, pieces, here, len),
     }
 }
 
-/// One turn at a state and a position. Its searches take from the budget, which is in steps.
+/// One turn at a state and on a way, which it leaves where the line goes on. Its searches take from the
+/// budget, which is in steps.
 pub fn turn<S: States>(
     alloc: Global,
     table: &mut S,
@@ -318,16 +385,16 @@ pub fn turn<S: States>(
     rules: &[Rule],
     text: &Line,
     state: StateId,
-    at: usize,
+    way: &mut Way,
     budget: &mut u64,
 ) -> Result<Next, LineFault>
     requires state { state.0 < length (S.tables table.old).states }
     requires some { IsTrue (some_open (reverse (state_at (S.tables table.old) state))) }
-    requires within { at ≤ length text.now }
+    requires within { way.old.at ≤ length text.now }
     requires small { length text.now < 2 ^ 31 }
-    ensures { let p = place_of (reverse (state_at (S.tables table.old) state)) at in
+    ensures { let p = place_of (reverse (state_at (S.tables table.old) state)) (spot_of way.old) in
         Takes (turn_at (rules_grammar (rules_data rules.now) text.now) p)
-        (S.tables table.old) (S.tables table.new) pieces.old.items pieces.new.items
+        (S.tables table.old) (S.tables table.new) pieces.old.items pieces.new.items (spot_of way.new)
         budget.old budget.new result }
 {
     let Some((frame, below)) = table.top(state) else {
@@ -338,11 +405,24 @@ pub fn turn<S: States>(
         state,
         frame,
         below,
-        at,
     };
-    match winner(alloc, rules, text, at, has_end, frame.rule, budget) {
+    let anchors = Anchors {
+        allow_a: way.first,
+        allow_g: is_anchored(way),
+    };
+    match winner(
+        alloc, rules, text, way.at, anchors, has_end, frame.rule, budget,
+    ) {
         Ok(found) => {
-            match taken(table, pieces, rules, here, found, text.as_slice().len()) {
+            match taken(
+                table,
+                pieces,
+                rules,
+                here,
+                way,
+                found,
+                text.as_slice().len(),
+            ) {
                 Ok(next) => Ok(next),
                 Err(fault) => Err(table_fault(fault)),
             }

@@ -1,65 +1,200 @@
--- Each turn that goes on leaves less of the text, so the number of turns does not matter.
-use Rattle.std.proofs.Common.{◌≡◌, ℕ, zero, suc, ◌-◌, ◌<◌, ◌≤◌, List, [], ◌∷◌, refl, ap, sym, ◌∙◌, arith}
-use Rattle.std.specs.Prelude.{⊤}
+-- Each turn that goes on leaves fewer turns.
+use Rattle.std.proofs.Common.{◌≡◌, ℕ, zero, suc, ◌+◌, ◌-◌, ◌*◌, ◌<◌, ◌≤◌, Bool, true, false, cond, not, max, nat_lt, List, [], ◌∷◌, length, Option, Some, refl, ap, sym, ◌∙◌, arith, eqb-true, eq-eqb}
+use Rattle.std.proofs.lemmas.Bool.{eqb-false}
+use Rattle.std.specs.Prelude.{◌&&◌, ◌||◌, ◌==◌, ⊤}
+use Rattle.std.proofs.Math.Nat.{mul-le-mul_left}
+use Rattle.std.proofs.lemmas.Bool.Decides.{nat_tests}
 use Rattle.tm_defs.specs.declared.frames.FrameData.{FrameData}
-use Rattle.tm_line_run.specs.LineRun.{Place, Match, Winner, Nothing, Ends, Begins, Matches, Outcome, Turn, Stops, GoesOn, Grammar, some_open, joined, ended, by_winner, paid, turn, after, runs, line_run}
-use Rattle.tm_line_run.specs.Laws.{IsAhead, IsWinnerAhead, FindsForward, IsLineRun}
+use Rattle.tm_line_run.specs.LineRun.{Entry, Place, Match, Winner, Nothing, Ends, Begins, Matches, Outcome, Turn, Stops, GoesOn, Grammar, is_entered, near, has, left_entries, anchor_before, stack_of, joined, opened, advances, onward, ended, begun, matched, by_winner, asked, paid, turn, after, runs, unused, left, line_run}
+use Rattle.tm_line_run.specs.Laws.{IsWinnerWithin, FindsWithin, IsLineRun}
 
--- where a turn goes on lies ahead, in the text
-abbrev pub Falls : ℕ → Place → Turn → Type 0
-Falls end p (Stops part stack) = ⊤
-Falls end p (GoesOn part q) = (p.at < q.at) × (q.at ≤ end)
+-- either side of a choice
+pub both : {X : Type 0} (P : X → Type 0) (b : Bool) (x y : X) → (b ≡ true → P x) → (b ≡ false → P y) → P (cond b x y)
+both P true x y t f = t refl
+both P false x y t f = f refl
 
-ended-falls : (end : ℕ) (p : Place) (m : Match) (below : List FrameData) → IsAhead end p.at m → Falls end p (ended end p m below)
-ended-falls end p m [] h = tt
-ended-falls end p m (next ∷ rest) h = h
+-- of no rules all are unused
+unused-none : (r : ℕ) → unused [] r ≡ r
+unfolding unused
+unused-none zero = refl
+unused-none (suc r) = let e = unused-none r in omega arith
 
-paid-falls : (end : ℕ) (p : Place) (steps : ℕ) (t : Turn) → Falls end p t → Falls end p (paid steps t)
-paid-falls end p steps (Stops part stack) h = tt
-paid-falls end p steps (GoesOn part q) h = h
+-- no more than all
+unused-max : (rules : List ℕ) (r : ℕ) → unused rules r ≤ r
+unfolding unused
+unused-max rules zero = omega arith
+unused-max rules (suc r) = both (λ n. n + unused rules r ≤ suc r) (has rules r) 0 1 (λ _. omega (arith, unused-max rules r)) (λ _. omega (arith, unused-max rules r))
 
--- two that agree ahead give the same after a turn
-after-same : (end : ℕ) (go run : Place → Outcome) (p : Place) (t : Turn) → Falls end p t → ((q : Place) → p.at < q.at → q.at ≤ end → go q ≡ run q) → after go t ≡ after run t
-after-same end go run p (Stops part stack) h same = refl
-after-same end go run p (GoesOn part q) h same =
-    let P : Outcome → Outcome = λ o. record { part = joined part o.part; stack = o.stack } in
-    ap P (same q h.0 h.1)
+-- one more uses no less
+unused-more : (k : ℕ) (rules : List ℕ) (r : ℕ) → unused (k ∷ rules) r ≤ unused rules r
+unfolding unused
+unused-more k rules zero = omega arith
+unused-more k rules (suc r) = go (k == r) (has rules r) (unused-more k rules r)
+  where
+    go : (a b : Bool) → unused (k ∷ rules) r ≤ unused rules r → cond (a || b) 0 1 + unused (k ∷ rules) r ≤ cond b 0 1 + unused rules r
+    go true true h = omega arith
+    go true false h = omega arith
+    go false b h = omega arith
+
+-- a new one uses one more
+unused-less : (k : ℕ) (rules : List ℕ) (r : ℕ) → has rules k ≡ false → k < r → unused (k ∷ rules) r < unused rules r
+unfolding unused
+unused-less k rules zero fresh lt = absurd (omega arith)
+unused-less k rules (suc r) fresh lt = go (k == r) refl (λ below. unused-less k rules r fresh below)
+  where
+    go : (a : Bool) → (k == r) ≡ a → (k < r → unused (k ∷ rules) r < unused rules r) → cond (a || has rules r) 0 1 + unused (k ∷ rules) r < cond (has rules r) 0 1 + unused rules r
+    go true e ih =
+        let same : k ≡ r = eqb-true k r e in
+        let no_r : has rules r ≡ false = ap (has rules) (sym same) ∙ fresh in
+        rw no_r (omega (arith, unused-more k rules r))
+    go false e ih =
+        let apart : k ≡ r → ⊥ = eqb-false k r e in
+        let below : k < r = omega arith in
+        let less = ih below in omega arith
+
+-- a step on: the characters pay for a frame and for all rules
+pays : (a x y t u f r : ℕ) → a ≡ 2 * r + 2 → x < y → u ≤ t + 1 → f ≤ r → a * x + u + 2 * f < a * y + t
+pays a x y t u f r e lt le few = let more : a * suc x ≤ a * y = mul-le-mul_left a lt in omega arith
+
+-- a turn that goes on goes on in the text
+abbrev pub IsWithin : ℕ → Turn → Type 0
+IsWithin end (Stops part stack) = ⊤
+IsWithin end (GoesOn part q) = q.at ≤ end
+
+-- both bound the greater
+max-within : (a b n : ℕ) → a ≤ n → b ≤ n → max a b ≤ n
+max-within a b n h k = grind (arith, nat_tests)
+
+-- the position never goes back
+at-kept : (a b : ℕ) → nat_lt a b ≡ false → max a b ≡ a
+at-kept a b e = grind (arith, nat_tests)
+
+-- and is the match's end where it advances
+at-moved : (a b : ℕ) → a < b → max a b ≡ b
+at-moved a b lt = grind (arith, nat_tests)
 
 module _ (g : Grammar) where
-  by_winner-falls : (p : Place) (w : Winner) → IsWinnerAhead g.end p.at w → Falls g.end p (by_winner g p w)
-  by_winner-falls p Nothing h = tt
-  by_winner-falls p (Ends m) h = ended-falls g.end p m p.below h
-  by_winner-falls p (Begins rule m) h = h
-  by_winner-falls p (Matches rule m) h = h
+  -- where a turn goes on fewer turns are left
+  abbrev pub Falls : Place → Turn → Type 0
+  Falls p (Stops part stack) = ⊤
+  Falls p (GoesOn part q) = left g q < left g p
 
-  pub turn-falls : FindsForward g → (p : Place) → p.at ≤ g.end → Falls g.end p (turn g p)
-  turn-falls finds p within =
-      paid-falls g.end p _ (by_winner g p (g.winner p.top (some_open p.below) p.at)) (by_winner-falls p (g.winner p.top (some_open p.below) p.at) (finds p.top (some_open p.below) p.at within))
+  -- a match that advances pays for all
+  advanced : (p : Place) (m : Match) (top : FrameData) (below : List FrameData) (entries : List Entry) (anchor : Option ℕ) → p.at < m.end → m.end ≤ g.end → length below ≤ length (stack_of p) →
+      left g (onward p m top below entries anchor) < left g p
+  unfolding left
+  advanced p m top below entries anchor lt within le =
+      let moved = at-moved p.at m.end lt in
+      let paid = pays (2 * g.rules + 2) (g.end - m.end) (g.end - p.at) (length (stack_of p)) (length (top ∷ below)) (unused (near m.end entries) g.rules) g.rules refl (omega arith) (omega arith) (unused-max (near m.end entries) g.rules) in
+      rw moved (omega arith)
+
+  -- where a match goes on
+  onward-falls : (p : Place) (m : Match) (top : FrameData) (below : List FrameData) (entries : List Entry) (anchor : Option ℕ) → m.end ≤ g.end → length below ≤ length (stack_of p) →
+      (advances p m ≡ false → length below + 2 * unused (near p.at entries) g.rules < length p.below + 2 * unused (near p.at p.entries) g.rules) →
+      left g (onward p m top below entries anchor) < left g p
+  unfolding left
+  onward-falls p m top below entries anchor within le stays = by_test (advances p m) refl
+    where
+      by_test : (b : Bool) → advances p m ≡ b → left g (onward p m top below entries anchor) < left g p
+      by_test true so = advanced p m top below entries anchor (grind (arith, nat_tests)) within le
+      by_test false so = let less = stays so in rw (at-kept p.at m.end so) (omega arith)
+
+  -- the rule that is left is paid for
+  popped-falls : (p : Place) (rest : List FrameData) → length rest < length p.below → is_entered p.at p.entries ≡ false →
+      length rest + 2 * unused (near p.at (left_entries p.entries)) g.rules < length p.below + 2 * unused (near p.at p.entries) g.rules
+  popped-falls p rest less far =
+      let none : near p.at p.entries ≡ [] = none_near p.entries far in
+      let all : unused (near p.at p.entries) g.rules ≡ g.rules = ap (λ rules. unused rules g.rules) none ∙ unused-none g.rules in
+      omega (arith, unused-max (near p.at (left_entries p.entries)) g.rules)
+    where
+      none_near : (entries : List Entry) → is_entered p.at entries ≡ false → near p.at entries ≡ []
+      none_near [] e = refl
+      none_near (x ∷ xs) e = ap (λ b. cond b (x.rule ∷ near p.at xs) []) e
+
+  ended-falls : (p : Place) (m : Match) (below : List FrameData) → below ≡ p.below → m.end ≤ g.end → Falls p (ended g.end p m below)
+  ended-falls p m [] e within = tt
+  ended-falls p m (next ∷ rest) e within = both (Falls p) (not (advances p m) && is_entered p.at p.entries) _ _ (λ _. tt) (λ free.
+      onward-falls p m next rest (left_entries p.entries) (anchor_before p.entries) within (omega (arith, ap length e)) (λ stays.
+      popped-falls p rest (omega (arith, ap length e)) (ap (λ b. not b && is_entered p.at p.entries) (sym stays) ∙ free)))
+
+  -- the rule that is opened is paid for
+  pushed-falls : (p : Place) (rule : ℕ) (anchor : Option ℕ) → rule < g.rules → has (near p.at p.entries) rule ≡ false →
+      length (stack_of p) + 2 * unused (near p.at (record { rule = rule; at = p.at; anchor = anchor } ∷ p.entries)) g.rules < length p.below + 2 * unused (near p.at p.entries) g.rules
+  pushed-falls p rule anchor known new =
+      let entry : Entry = record { rule = rule; at = p.at; anchor = anchor } in
+      let one : near p.at (entry ∷ p.entries) ≡ rule ∷ near p.at p.entries = ap (λ b. cond b (rule ∷ near p.at p.entries) []) (eq-eqb p.at p.at refl) in
+      let fewer : unused (near p.at (entry ∷ p.entries)) g.rules < unused (near p.at p.entries) g.rules = rw one (unused-less rule (near p.at p.entries) g.rules new known) in
+      omega arith
+
+  begun-falls : (p : Place) (rule : ℕ) (m : Match) (names : List (List ℕ)) → m.end ≤ g.end → rule < g.rules → Falls p (begun g.end p rule m names)
+  begun-falls p rule m names within known = both (Falls p) (not (advances p m) && has (near p.at p.entries) rule) _ _ (λ _. tt) (λ free.
+      onward-falls p m _ (stack_of p) _ (Some m.end) within (omega arith) (λ stays.
+      pushed-falls p rule p.anchor known (ap (λ b. not b && has (near p.at p.entries) rule) (sym stays) ∙ free)))
+
+  matched-falls : (p : Place) (m : Match) (names : List (List ℕ)) → m.end ≤ g.end → Falls p (matched g.end p m names)
+  matched-falls p m names within = both (Falls p) (advances p m) _ _ (λ so.
+      onward-falls p m p.top p.below p.entries p.anchor within (omega arith) (λ stays. absurd cc)) (λ _. tt)
+
+  by_winner-falls : (p : Place) (w : Winner) → IsWinnerWithin g.rules g.end w → Falls p (by_winner g p w)
+  by_winner-falls p Nothing h = tt
+  by_winner-falls p (Ends m) h = ended-falls p m p.below refl h
+  by_winner-falls p (Begins rule m) h = begun-falls p rule m (g.names rule m) h.0 h.1
+  by_winner-falls p (Matches rule m) h = matched-falls p m (g.names rule m) h
+
+  ended-within : (p : Place) (m : Match) (below : List FrameData) → p.at ≤ g.end → m.end ≤ g.end → IsWithin g.end (ended g.end p m below)
+  ended-within p m [] at within = tt
+  ended-within p m (next ∷ rest) at within = both (IsWithin g.end) (not (advances p m) && is_entered p.at p.entries) _ _ (λ _. tt) (λ _. max-within p.at m.end g.end at within)
+
+  by_winner-within : (p : Place) (w : Winner) → p.at ≤ g.end → IsWinnerWithin g.rules g.end w → IsWithin g.end (by_winner g p w)
+  by_winner-within p Nothing at h = tt
+  by_winner-within p (Ends m) at h = ended-within p m p.below at h
+  by_winner-within p (Begins rule m) at h = both (IsWithin g.end) (not (advances p m) && has (near p.at p.entries) rule) _ _ (λ _. tt) (λ _. max-within p.at m.end g.end at h.0)
+  by_winner-within p (Matches rule m) at h = both (IsWithin g.end) (advances p m) _ _ (λ _. max-within p.at m.end g.end at h) (λ _. tt)
+
+  paid-within : (steps : ℕ) (t : Turn) → IsWithin g.end t → IsWithin g.end (paid steps t)
+  paid-within steps (Stops part stack) h = tt
+  paid-within steps (GoesOn part q) h = h
+
+  pub turn-within : FindsWithin g → (p : Place) → p.at ≤ g.end → IsWithin g.end (turn g p)
+  turn-within finds p at = paid-within _ (by_winner g p (asked p g.winner)) (by_winner-within p (asked p g.winner) at (finds _ _ _ _ _))
+
+  paid-falls : (p : Place) (steps : ℕ) (t : Turn) → Falls p t → Falls p (paid steps t)
+  paid-falls p steps (Stops part stack) h = tt
+  paid-falls p steps (GoesOn part q) h = h
+
+  pub turn-falls : FindsWithin g → (p : Place) → Falls p (turn g p)
+  turn-falls finds p = paid-falls p _ (by_winner g p (asked p g.winner)) (by_winner-falls p (asked p g.winner) (finds _ _ _ _ _))
+
+  -- two that agree where fewer turns are left give the same after a turn
+  after-same : (go run : Place → Outcome) (p : Place) (t : Turn) → Falls p t → ((q : Place) → left g q < left g p → go q ≡ run q) → after go t ≡ after run t
+  after-same go run p (Stops part stack) h same = refl
+  after-same go run p (GoesOn part q) h same =
+      let P : Outcome → Outcome = λ o. record { part = joined part o.part; stack = o.stack } in
+      ap P (same q h)
 
   -- whatever satisfies the equation is the run of any number of turns that is large enough
-  runs-only : FindsForward g → (run : Place → Outcome) → ((p : Place) → p.at ≤ g.end → run p ≡ after run (turn g p)) → (n : ℕ) (p : Place) → p.at ≤ g.end → g.end - p.at < n → runs g n p ≡ run p
+  runs-only : FindsWithin g → (run : Place → Outcome) → ((p : Place) → run p ≡ after run (turn g p)) → (n : ℕ) (p : Place) → left g p < n → runs g n p ≡ run p
   unfolding runs
-  runs-only finds run eq zero p within lt = absurd (omega arith)
-  runs-only finds run eq (suc n) p within lt =
-      after-same g.end (runs g n) run p (turn g p) (turn-falls finds p within) (λ q low high. runs-only finds run eq n q high (omega arith)) ∙ sym (eq p within)
+  runs-only finds run eq zero p lt = absurd (omega arith)
+  runs-only finds run eq (suc n) p lt =
+      after-same (runs g n) run p (turn g p) (turn-falls finds p) (λ q less. runs-only finds run eq n q (omega arith)) ∙ sym (eq p)
 
   -- more turns than are left do not matter
-  runs-enough : FindsForward g → (n m : ℕ) (p : Place) → p.at ≤ g.end → g.end - p.at < n → g.end - p.at < m → runs g n p ≡ runs g m p
+  runs-enough : FindsWithin g → (n m : ℕ) (p : Place) → left g p < n → left g p < m → runs g n p ≡ runs g m p
   unfolding runs
-  runs-enough finds zero m p within lt more = absurd (omega arith)
-  runs-enough finds (suc n) zero p within lt more = absurd (omega arith)
-  runs-enough finds (suc n) (suc m) p within lt more =
-      after-same g.end (runs g n) (runs g m) p (turn g p) (turn-falls finds p within) (λ q low high. runs-enough finds n m q high (omega arith) (omega arith))
+  runs-enough finds zero m p lt more = absurd (omega arith)
+  runs-enough finds (suc n) zero p lt more = absurd (omega arith)
+  runs-enough finds (suc n) (suc m) p lt more =
+      after-same (runs g n) (runs g m) p (turn g p) (turn-falls finds p) (λ q less. runs-enough finds n m q (omega arith) (omega arith))
 
-  pub line_run-turn : FindsForward g → (p : Place) → p.at ≤ g.end → line_run g p ≡ after (line_run g) (turn g p)
+  pub line_run-turn : FindsWithin g → (p : Place) → line_run g p ≡ after (line_run g) (turn g p)
   unfolding runs line_run
-  line_run-turn finds p within =
-      after-same g.end (runs g (g.end - p.at)) (line_run g) p (turn g p) (turn-falls finds p within)
-      (λ q low high. runs-enough finds (g.end - p.at) (suc (g.end - q.at)) q high (omega arith) (omega arith))
+  line_run-turn finds p =
+      after-same (runs g (left g p)) (line_run g) p (turn g p) (turn-falls finds p) (λ q less. runs-enough finds (left g p) (suc (left g q)) q less (omega arith))
 
-  pub is_line_run : FindsForward g → IsLineRun g
+  pub is_line_run : FindsWithin g → IsLineRun g
   unfolding line_run
   is_line_run finds = record {
     equation = line_run-turn finds;
-    only = λ run eq p within. sym (runs-only finds run eq (suc (g.end - p.at)) p within (omega arith));
+    only = λ run eq p. sym (runs-only finds run eq (suc (left g p)) p (omega arith));
   }

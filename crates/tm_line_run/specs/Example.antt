@@ -1,6 +1,6 @@
 -- A worked line: `let (x` under a grammar in which `let` is a keyword (rule 1) and `(` begins a group
 -- (rule 2).
-use Rattle.std.specs.Prelude.{ℕ, zero, suc, false, List, [], ◌∷◌}
+use Rattle.std.specs.Prelude.{ℕ, zero, suc, true, false, List, [], ◌∷◌, None}
 use Rattle.tm_defs.specs.declared.tokens.Token.{Token}
 use Rattle.tm_line_run.specs.LineRun.{Place, Winner, Nothing, Begins, Matches, Grammar, opened}
 
@@ -29,14 +29,15 @@ names (suc (suc rule)) = group ∷ []
 -- the text is `let (x` and its line break, and each search takes 10 steps
 abbrev pub example : Grammar
 example = record {
+  rules = 3;
   end = 7;
-  winner = λ frame has_end at. found frame.rule at;
-  cost = λ frame has_end at. 10;
+  winner = λ frame has_end at first anchored. found frame.rule at;
+  cost = λ frame has_end at first anchored. 10;
   names = λ rule m. names rule;
 }
 
 abbrev pub start : Place
-start = record { top = opened 0 (root ∷ []) false; below = []; at = 0 }
+start = record { top = opened 0 (root ∷ []) false; below = []; at = 0; entries = []; anchor = None; first = true }
 
 -- the metadata of scopes is their number here
 abbrev pub depth : List (List ℕ) → ℕ

@@ -1,15 +1,25 @@
 -- The line relation: what a line does to the open rules, and what it paints.
 -- After vscode-textmate's tokenizer of one line, which goes on from turn to turn.
-use Rattle.std.specs.Prelude.{ℕ, zero, suc, ◌+◌, ◌-◌, ◌==◌, Bool, true, false, List, [], ◌∷◌, ◌++◌, reverse, None}
+use Rattle.std.specs.Prelude.{ℕ, zero, suc, ◌+◌, ◌-◌, ◌*◌, ◌==◌, ◌&&◌, ◌||◌, not, nat_lt, max, Bool, true, false, List, [], ◌∷◌, ◌++◌, length, reverse, Option, Some, None, if◌then◌else◌}
 use Rattle.tm_defs.specs.declared.frames.FrameData.{FrameData}
 use Rattle.tm_defs.specs.Tables.{TableEntries, none_made, more_made}
 
--- where a line stands: the innermost open rule, those around it from the nearest outward, and the
--- position in characters
+-- a rule that this line opened, and with it the position and the anchor of then
+pub record Entry : Type 0 where
+  pub rule : ℕ
+  pub at : ℕ
+  pub anchor : Option ℕ
+
+-- where a line stands: the innermost open rule, those around it from the nearest outward, and the position in
+-- characters; which of the open rules this line opened, the innermost first; the anchor, which is where `\G`
+-- matches, if there is one; and whether `\A` may match still
 pub record Place : Type 0 where
   pub top : FrameData
   pub below : List FrameData
   pub at : ℕ
+  pub entries : List Entry
+  pub anchor : Option ℕ
+  pub first : Bool
 
 -- scopes, from the end of the piece before up to an end
 pub record Piece : Type 0 where
@@ -43,13 +53,15 @@ pub data Winner : Type 0 where
   Begins : ℕ → Match → Winner
   Matches : ℕ → Match → Winner
 
--- what the rules say of one text: its length with the line break; what is found from a position on
--- by the innermost rule, whose end counts where the Bool says that a rule is open around it; the steps
--- of that search; and the names that a found rule pushes
+-- what the rules say of one text: how many there are; its length with the line break; what is found from a
+-- position on by the innermost rule, whose end counts where the first Bool says that a rule is open around it,
+-- where `\A` matches where the second says so, and `\G` where the third does; the steps of that search; and the
+-- names that a found rule pushes
 pub record Grammar : Type 0 where
+  pub rules : ℕ
   pub end : ℕ
-  pub winner : FrameData → Bool → ℕ → Winner
-  pub cost : FrameData → Bool → ℕ → ℕ
+  pub winner : FrameData → Bool → ℕ → Bool → Bool → Winner
+  pub cost : FrameData → Bool → ℕ → Bool → Bool → ℕ
   pub names : ℕ → Match → List (List ℕ)
 
 abbrev pub stack_of : Place → List FrameData
@@ -91,31 +103,102 @@ abbrev pub opened : ℕ → List (List ℕ) → Bool → FrameData
 opened rule scopes at_eol =
     record { rule = rule; end = None; names = scopes; contents = scopes; at_eol = at_eol }
 
+-- the same frame, with its name scopes as content scopes
+abbrev pub closing : FrameData → FrameData
+closing f = record f { contents = f.names }
+
+-- a match has advanced where it ends behind the position
+abbrev pub advances : Place → Match → Bool
+advances p m = nat_lt p.at m.end
+
+-- this line opened the innermost rule at this position
+abbrev pub is_entered : ℕ → List Entry → Bool
+is_entered at [] = false
+is_entered at (e ∷ es) = e.at == at
+
+-- the rules that were opened at this position, from the innermost outward as long as there are such
+abbrev pub near : ℕ → List Entry → List ℕ
+near at [] = []
+near at (e ∷ es) = if e.at == at then e.rule ∷ near at es else []
+
+-- the rule is among them
+abbrev pub has : List ℕ → ℕ → Bool
+has [] rule = false
+has (r ∷ rs) rule = (r == rule) || has rs rule
+
+-- the entries without that of the innermost rule
+abbrev pub left_entries : List Entry → List Entry
+left_entries [] = []
+left_entries (e ∷ es) = es
+
+-- the anchor with which the innermost rule was opened; a rule of an earlier line has none
+abbrev pub anchor_before : List Entry → Option ℕ
+anchor_before [] = None
+anchor_before (e ∷ es) = e.anchor
+
+-- the position is the anchor
+abbrev pub is_anchored : Option ℕ → ℕ → Bool
+is_anchored None at = false
+is_anchored (Some anchor) at = anchor == at
+
+-- where the line goes on behind a match
+abbrev pub onward : Place → Match → FrameData → List FrameData → List Entry → Option ℕ → Place
+onward p m top below entries anchor = record {
+  top = top;
+  below = below;
+  at = max p.at m.end;
+  entries = entries;
+  anchor = anchor;
+  first = p.first && not (advances p m);
+}
+
 -- nothing is found: the content scopes are painted to the text's end, and the line stops
 abbrev pub rests : ℕ → Place → Turn
 rests end p = Stops (adds (piece end p.top.contents ∷ []) none_made) (stack_of p)
 
--- the innermost rule ends, and its end is painted with its name scopes; the outermost rule has no end
+-- The innermost rule ends, and its end is painted with its name scopes; the outermost rule has no end. An end
+-- that has not advanced, of a rule that was opened at this position, is stuck: the line stops in the rule.
 abbrev pub ended : ℕ → Place → Match → List FrameData → Turn
 ended end p m [] = rests end p
 ended end p m (next ∷ rest) =
-    GoesOn (adds (paints p.top.contents p.top.names m) none_made)
-    (record { top = next; below = rest; at = m.end })
+    if not (advances p m) && is_entered p.at p.entries
+    then Stops (adds (paints p.top.contents p.top.names m ++ piece end p.top.names ∷ []) (state_made (closing p.top ∷ next ∷ rest)))
+    (closing p.top ∷ next ∷ rest)
+    else GoesOn (adds (paints p.top.contents p.top.names m) none_made)
+    (onward p m next rest (left_entries p.entries) (anchor_before p.entries))
 
--- a rule begins: it is open from here on, with its names pushed onto the content scopes
+-- A rule begins: it is open from here on, with its names pushed onto the content scopes, and the anchor is where
+-- the begin ends. A begin that has not advanced, of a rule that was opened at this position already, is stuck: the
+-- line stops without it.
 abbrev pub begun : ℕ → Place → ℕ → Match → List (List ℕ) → Turn
 begun end p rule m names =
     let scopes = p.top.contents ++ names in
     let frame = opened rule scopes (m.end == end) in
-    let made = more_made (names_made p.top.contents names) (state_made (frame ∷ stack_of p)) in
-    GoesOn (adds (paints p.top.contents scopes m) made)
-    (record { top = frame; below = stack_of p; at = m.end })
+    let made = names_made p.top.contents names in
+    if not (advances p m) && has (near p.at p.entries) rule
+    then Stops (adds (paints p.top.contents scopes m ++ piece end p.top.contents ∷ []) made) (stack_of p)
+    else GoesOn (adds (paints p.top.contents scopes m) (more_made made (state_made (frame ∷ stack_of p))))
+    (onward p m frame (stack_of p) (record { rule = rule; at = p.at; anchor = p.anchor } ∷ p.entries) (Some m.end))
 
--- a rule matches: its names are pushed for the match alone
-abbrev pub matched : Place → Match → List (List ℕ) → Turn
-matched p m names =
-    GoesOn (adds (paints p.top.contents (p.top.contents ++ names) m) (names_made p.top.contents names))
-    (record { top = p.top; below = p.below; at = m.end })
+-- the open rules without the innermost, if there is one around it
+abbrev pub popped : FrameData → List FrameData → List FrameData
+popped top [] = top ∷ []
+popped top (next ∷ rest) = next ∷ rest
+
+-- the content scopes of their innermost
+abbrev pub popped_contents : FrameData → List FrameData → List (List ℕ)
+popped_contents top [] = top.contents
+popped_contents top (next ∷ rest) = next.contents
+
+-- A rule matches: its names are pushed for the match alone. A match that has not advanced is stuck: the line stops,
+-- without the innermost rule if there is one around it.
+abbrev pub matched : ℕ → Place → Match → List (List ℕ) → Turn
+matched end p m names =
+    let pieces = paints p.top.contents (p.top.contents ++ names) m in
+    let made = names_made p.top.contents names in
+    if advances p m
+    then GoesOn (adds pieces made) (onward p m p.top p.below p.entries p.anchor)
+    else Stops (adds (pieces ++ piece end (popped_contents p.top p.below) ∷ []) made) (popped p.top p.below)
 
 -- the search of a turn is paid first
 abbrev pub paid : ℕ → Turn → Turn
@@ -127,24 +210,36 @@ abbrev pub after : (Place → Outcome) → Turn → Outcome
 after go (Stops part stack) = record { part = part; stack = stack }
 after go (GoesOn part q) = record { part = joined part (go q).part; stack = (go q).stack }
 
+-- how many of the numbers below r are not in the list
+unfoldable pub unused : List ℕ → ℕ → ℕ
+unused rules zero = 0
+unused rules (suc r) = (if has rules r then 0 else 1) + unused rules r
+
+-- what is asked at a place
+abbrev pub asked : {X : Type 0} → Place → (FrameData → Bool → ℕ → Bool → Bool → X) → X
+asked p ask = ask p.top (some_open p.below) p.at p.first (is_anchored p.anchor p.at)
+
 module _ (g : Grammar) where
   abbrev pub by_winner : Place → Winner → Turn
   by_winner p Nothing = rests g.end p
   by_winner p (Ends m) = ended g.end p m p.below
   by_winner p (Begins rule m) = begun g.end p rule m (g.names rule m)
-  by_winner p (Matches rule m) = matched p m (g.names rule m)
+  by_winner p (Matches rule m) = matched g.end p m (g.names rule m)
 
   -- one turn at a place
   abbrev pub turn : Place → Turn
-  turn p =
-      let has_end = some_open p.below in
-      paid (g.cost p.top has_end p.at) (by_winner p (g.winner p.top has_end p.at))
+  turn p = paid (asked p g.cost) (by_winner p (asked p g.winner))
 
   -- at most so many turns
   unfoldable pub runs : ℕ → Place → Outcome
   runs zero p = record { part = adds [] none_made; stack = stack_of p }
   runs (suc n) p = after (runs n) (turn p)
 
+  -- More than the turns that are left: characters, open rules, and rules that were not opened at this position yet. A
+  -- turn that does not advance ends a rule that was opened before, or opens one that was not.
+  unfoldable pub left : Place → ℕ
+  left p = (2 * g.rules + 2) * (g.end - p.at) + length (stack_of p) + 2 * unused (near p.at p.entries) g.rules
+
   -- the line from a place on: turn after turn until it stops (`Laws` says so without a number of turns)
   unfoldable pub line_run : Place → Outcome
-  line_run p = runs (suc (g.end - p.at)) p
+  line_run p = runs (suc (left p)) p

@@ -20,7 +20,7 @@
 ghost use Rattle.std.specs.Prelude.{◌≡◌, ◌∷◌, [], false};
 ghost use Rattle.tm_line_run.specs.Example.{example, start, root, keyword, group, depth, token};
 ghost use Rattle.tm_line_run.specs.LineRun.{Grammar, line_run, opened};
-ghost use Rattle.tm_line_run.specs.Laws.{FindsForward, IsLineRun};
+ghost use Rattle.tm_line_run.specs.Laws.{FindsWithin, IsLineRun};
 ghost use Rattle.tm_line_run.specs.Painted.{runs_of, scopes_at};
 
 pub mod painter;
@@ -29,7 +29,7 @@ mod tests;
 
 /// A line has exactly one outcome: the one that satisfies the equation of its turns.
 pub fn one_outcome()
-    ensures { (g : Grammar) → FindsForward g → IsLineRun g }
+    ensures { (g : Grammar) → FindsWithin g → IsLineRun g }
 {}
 
 /// The line at the head of this module, computed by the definitions: its tokens, where the metadata

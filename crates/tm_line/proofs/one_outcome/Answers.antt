@@ -1,7 +1,7 @@
 use Rattle.tm_line_run.proofs.Turns.{is_line_run}
 use Rattle.tm_line.specs.Grammar.{rules_grammar}
-use Rattle.tm_line.proofs.Forward.{finds-forward}
+use Rattle.tm_line.proofs.Found.{finds-within}
 use Rattle.tm_line.proofs.one_outcome.Goals as goal
 
 pub returns : goal.returns
-returns c = λ rules text texts. is_line_run (rules_grammar rules text) (finds-forward rules text texts)
+returns c = λ rules text. is_line_run (rules_grammar rules text) (finds-within rules text)
