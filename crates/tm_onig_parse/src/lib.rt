@@ -2,7 +2,8 @@
 //!
 //! A pattern's text is read from left to right, with the groups that are open on a stack of its own: no
 //! call is nested as deep as the text, and what is made is at most 200 deep, so that it can be let go. A
-//! first pass finds the groups and their names, to which a reference may refer before they are opened. The grammar is a definition apart (`specs/Grammar.antt`, `specs/Meaning.antt`).
+//! first pass finds the groups and their names, to which a reference may refer before they are opened. The
+//! grammar is a definition apart (`specs/Grammar.antt`, `specs/Meaning.antt`).
 #![tactic(auto)]
 
 ghost use Rattle.std.specs.Prelude.{◌≡◌, ℕ, List, IfOk, Some};

@@ -1,8 +1,8 @@
 //! The first reading of a text, which finds its capturing groups.
 //!
 //! A reference may stand before its group, and a number behind a backslash is one only up to the number
-//! of groups. So the groups are read first, under the options that hold, and without making parts of
-//! what they hold.
+//! of groups. So the groups are read first, under the options that hold. What stands in them is read too,
+//! to find where it ends, and let go.
 ghost use Rattle.std.specs.Prelude.{◌≡◌, map, None};
 ghost use Rattle.tm_onig_parse.specs.Reading.{Open, Close, outline_start, outline_step, names_onward};
 ghost use Rattle.tm_onig_parse.specs.Views.{Gives, Steps, name_of_chars, names_known, outline_of, sym_of_token};
