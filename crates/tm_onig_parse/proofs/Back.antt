@@ -12,7 +12,7 @@ use Rattle.tm_onig_parse.specs.Things.{Opening, inside, opener_of, count, Amount
 use Rattle.tm_onig_parse.specs.Grammar.{Body, Simply, Under, Alts, First, Also, Row, Nothing, Then, Noted, Piece, Alone, Inside, Repeated, Behind, end_options, written, written_alts, written_row, written_piece, groups, groups_alts, groups_row, groups_piece}
 use Rattle.tm_onig_parse.specs.Meaning.{Built, enclosed, quantified, rows, parts, piece_built, built, meaning}
 use Rattle.tm_onig_atom.specs.Reading.{◌>>=◌}
-use Rattle.tm_onig_parse.specs.Reading.{Close, Or, Repeats, Level, State, added, level_built, is_set, settled, close_in, within, more_times, change_last, step, advancing, finish_in, finish}
+use Rattle.tm_onig_parse.specs.Reading.{Close, Or, Repeats, Level, State, added, level_built, is_set, settled, close_in, within, more_times, change_last, step, finish_in, finish}
 use Rattle.tm_onig_atom.proofs.Texts.{bind_ok}
 use Rattle.tm_onig_parse.proofs.OneRead.{sym_of}
 use Rattle.tm_onig_parse.proofs.Structure.{Kind, kind, level, change_last-snoc, done_body, last_body, whole_body, opening_set, same_opened}
@@ -427,17 +427,19 @@ pub record Ends (s : Stack) (ks : Toks) (tree : Tree) : Type 0 where
   pub means : tree ≡ meaning body
   pub few : groups body ≤ 1000
   pub shallow : (built body).height ≤ 200
-  pub takes : (built body).takes ≡ true
+
+-- one tree in both
+same_tree : (a b : Tree) → Some a ≡ Some b → b ≡ a
+same_tree a b e = cc
 
 -- the whole, with its limits
 ended : (s : Stack) (to : List (Part × Begin)) (body : Body) (tree : Tree) → outer_written to ++ written body (options_of to) ≡ stack_written s → outer_opened to + groups body ≤ 1000 →
     finish_in (outer_of to, body_level to body) ≡ Some tree → Ends s [] tree
 ended s (p ∷ to) body tree spelled few e = absurd cc
 ended s [] body tree spelled few e =
-    let over : (within (built body) >>= advancing) ≡ Some tree = rw whole_body at e in
-    let low = within_ok (built body) advancing tree over in
-    let takes = cond_some _ _ _ low.1 in
-    record { body = body; whole = spelled ∙ sym (append-nil (stack_written s)); means = sym takes.1; few = omega arith; shallow = low.0; takes = takes.0 }
+    let over : (within (built body) >>= λ b. Some b.tree) ≡ Some tree = rw whole_body at e in
+    let low = within_ok (built body) (λ b. Some b.tree) tree over in
+    record { body = body; whole = spelled ∙ sym (append-nil (stack_written s)); means = same_tree _ _ low.1; few = omega arith; shallow = low.0 }
 
 -- Where the reading ends, what was written is a whole.
 pub finish_back : (outer : List (Part × Begin)) (before : Option Alts) (row : Row) (tree : Tree) →

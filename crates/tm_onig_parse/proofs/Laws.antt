@@ -5,7 +5,6 @@ use Rattle.std.proofs.lemmas.Option.{cond_some}
 use Rattle.std.proofs.lemmas.Bool.{leb-true}
 use Rattle.tm_onig_class.specs.Groups.{IsNumbered}
 use Rattle.tm_onig_class.specs.Tree.{Tree, tree_of}
-use Rattle.tm_onig_class.specs.Widths.{least_width}
 use Rattle.tm_onig_class.specs.declared.patterns.Pattern.{Pattern}
 use Rattle.tm_onig_parse.specs.declared.ParseFault.{ParseFault}
 use Rattle.tm_onig_atom.specs.declared.options.Options.{Options}
@@ -24,7 +23,6 @@ use Rattle.tm_onig_parse.proofs.Lexing.{token_again, token_found, text_length}
 use Rattle.tm_onig_parse.proofs.Heights.{alts_low}
 use Rattle.tm_onig_parse.proofs.Structure.{Runs, kind, body_run, BodyRun, whole_body}
 use Rattle.tm_onig_parse.proofs.Back.{Stack, stack, state_of, stack_written, options_of, kind_options, step_back, same_state, Ends, finish_back}
-use Rattle.tm_onig_parse.proofs.Advancing.{takes_wide, wide_takes}
 use Rattle.tm_onig_parse.proofs.GroupsRead.{groups_read}
 use Rattle.tm_onig_parse.proofs.Numbering.{spells_numbered}
 
@@ -100,7 +98,6 @@ one_more names s to k t rest tree toks whole is more = record {
     means = more.ends.means;
     few = more.ends.few;
     shallow = more.ends.shallow;
-    takes = more.ends.takes;
   };
 }
 
@@ -160,7 +157,6 @@ with_names t names tree short first e =
         short = short;
         few_groups = r.ends.few;
         shallow = r.ends.shallow;
-        advances = wide_takes r.ends.body r.ends.takes;
       },
       r.ends.means,
     )
@@ -185,7 +181,7 @@ parsed_only t body s =
     let names = ap (names_onward outline_start) s.whole ∙ names_as (names_in body) body s.are s.few_groups s.shallow in
     let reads = ap (onward (Some (names_in body)) start) s.whole
     ∙ read_again (Some (names_in body)) (written body no_options) (length (spelling (written body no_options))) start b.to (omega arith) s.are b.runs
-    ∙ (rw (b.settles, whole_body, le-leb (built body).height 200 s.shallow, takes_wide body s.advances) refl) in
+    ∙ (rw (b.settles, whole_body, le-leb (built body).height 200 s.shallow) refl) in
     rw (le-leb (length t) 65536 s.short, names) reads
 
 -- the same of what the program answers
@@ -197,7 +193,3 @@ found_in t (Err fault) e = tt
 pub numbered_in : (t : List ℕ) (r : Result Pattern ParseFault) → Gives tree_of r (parsed t) → IfOk r (λ pattern. IsNumbered (tree_of pattern))
 numbered_in t (Ok pattern) e = let found = parsed_found t (tree_of pattern) e in subst IsNumbered (sym found.2) (spells_numbered t found.0 found.1)
 numbered_in t (Err fault) e = tt
-
--- what is read takes a character at each match
-pub parsed_wide : (t : List ℕ) (tree : Tree) → parsed t ≡ Some tree → 1 ≤ least_width tree
-parsed_wide t tree e = let found = parsed_found t tree e in subst (λ (u : Tree). 1 ≤ least_width u) (sym found.2) found.1.advances

@@ -14,11 +14,11 @@ use Rattle.tm_onig_atom.proofs.ClassExact.{class_again, class_found}
 use Rattle.tm_onig_atom.proofs.EscapeExact.{escape_again as character_again, escape_found as character_found}
 use Rattle.tm_onig_atom.proofs.Texts.{chosen, differs, or_parts}
 use Rattle.tm_onig_parse.specs.declared.quantifiers.Manner.TheVariants.{Lazy, Possessive, Again}
-use Rattle.tm_onig_parse.specs.Characters.{single_tree, is_special, place_letter, is_later}
+use Rattle.tm_onig_parse.specs.Characters.{single_tree, is_special, place_letter}
 use Rattle.tm_onig_parse.specs.Intervals.{Bounds, bounds_text, IsBounds, NoBounds, least_in, greatest_in}
 use Rattle.tm_onig_parse.specs.Names.{Names, reference_text, key_of, meant_in}
 use Rattle.tm_onig_parse.specs.Things.{is_blank, skips, begins_reference, back_tree, Atom, Plain, Escaped, Placed, Bracketed, Refers, atom_text, IsAtom, Opening, Capture, Named, Group, Keep, Look, opening_text, sign_bounds, Amount, Sign, Braces, amount_text, IsAmount, least_of, greatest_of, Mark, mark_text, EndsMark, with_question, with_plus, manner_of, Skip, Comment, Blank, Remark, skip_text, ends_line, IsSkip, Tok, Single, Opens, Setting, Closing, Bar, Times, Skipped, text_of, IsTok}
-use Rattle.tm_onig_parse.specs.Meaning.{atom_built, class_built, leaf}
+use Rattle.tm_onig_parse.specs.Meaning.{atom_built, nested, leaf}
 use Rattle.tm_onig_parse.specs.Reading.{Sym, Means, Repeats, Skips, Found, bounds_at, comment_at, open_at, groups_at, times_at, interval_at, braces_at, means, means_escape, place_or, escape_at, means_class, line_end, bounds_or, sign_or, token_at}
 use Rattle.tm_onig_parse.proofs.BoundsExact.{bounds_again, bounds_found, no_bounds, lacks_bounds}
 use Rattle.tm_onig_parse.proofs.BoundsValues.{Interval, interval_again, interval_found}
@@ -129,11 +129,17 @@ place_no_reference c place e = elim (chosen (c == 98) _ _ _ e) [
   | inl h ↦ rw (eqb-true c 98 h.0) refl
   | inr h ↦ elim (chosen (c == 66) _ _ _ h.1) [
     | inl g ↦ rw (eqb-true c 66 g.0) refl
-    | inr g ↦ elim (chosen (c == 90) _ _ _ g.1) [
-      | inl f ↦ rw (eqb-true c 90 f.0) refl
-      | inr f ↦ elim (chosen (c == 122) _ _ _ f.1) [
-        | inl d ↦ rw (eqb-true c 122 d.0) refl
-        | inr d ↦ absurd cc
+    | inr g ↦ elim (chosen (c == 65) _ _ _ g.1) [
+      | inl f ↦ rw (eqb-true c 65 f.0) refl
+      | inr f ↦ elim (chosen (c == 71) _ _ _ f.1) [
+        | inl d ↦ rw (eqb-true c 71 d.0) refl
+        | inr d ↦ elim (chosen (c == 90) _ _ _ d.1) [
+          | inl b ↦ rw (eqb-true c 90 b.0) refl
+          | inr b ↦ elim (chosen (c == 122) _ _ _ b.1) [
+            | inl a ↦ rw (eqb-true c 122 a.0) refl
+            | inr a ↦ absurd cc
+          ]
+        ]
       ]
     ]
   ]
@@ -144,7 +150,7 @@ escaped_again : (names : Option Names) (o : Options) (e : Escape) (tree : Tree) 
     escape_at names o (escape_text e ++ rest) ≡ Some (Means (leaf tree), rest)
 unfolding escape_at
 escaped_again names o e tree rest is =
-    (rw (is.0, is.1, is.2) (ap means_escape (character_again e o rest is.3))) ∙ ap (λ (t : Tree). Some (Means (leaf t), rest)) is.4
+    (rw (is.0, is.1) (ap means_escape (character_again e o rest is.2))) ∙ ap (λ (t : Tree). Some (Means (leaf t), rest)) is.3
 
 -- a place that is written is read
 placed_again : (names : Option Names) (o : Options) (c : ℕ) (place : Position) (rest : List ℕ) → place_letter c ≡ Some place → escape_at names o (c ∷ rest) ≡ Some (Means (leaf (Holds place)), rest)
@@ -153,8 +159,8 @@ placed_again names o c place rest is = rw (place_no_reference c place is, is) re
 
 -- a class that is written is read
 bracketed_again : (names : Option Names) (o : Options) (k : Class) (tree : Tree) (rest : List ℕ) → IsAtom names (Bracketed k tree) o rest →
-    means_class (class_at 200 o (inside k ++ rest)) ≡ Some (Means (class_built tree (class_height k)), rest)
-bracketed_again names o k tree rest is = ap means_class (class_again k 200 o rest is.0 is.1) ∙ ap (λ (t : Tree). Some (Means (class_built t (class_height k)), rest)) is.2
+    means_class (class_at 200 o (inside k ++ rest)) ≡ Some (Means (nested tree (class_height k)), rest)
+bracketed_again names o k tree rest is = ap means_class (class_again k 200 o rest is.0 is.1) ∙ ap (λ (t : Tree). Some (Means (nested t (class_height k)), rest)) is.2
 
 -- an atom that is written is read
 atom_again : (names : Option Names) (a : Atom) (o : Options) (rest : List ℕ) → IsAtom names a o rest → token_at names o (atom_text a ++ rest) ≡ Some (Means (atom_built a), rest)
@@ -272,14 +278,14 @@ braces_found names o t y rest some e =
     subst (λ u. Reads names o (123 ∷ u) y rest) (sym b.whole) (bounds_read names b.bounds o b.more b.is (interval_at (bounds_text b.bounds ++ b.more)) refl y rest (rw b.whole at e))
 
 -- an escape that is read
-escape_read : (names : Option Names) (o : Options) (t : List ℕ) → ((e : Escape) (after : List ℕ) → t ≡ escape_text e ++ after → (begins_reference (escape_head e) ≡ false) × (place_letter (escape_head e) ≡ None) × (is_later (escape_head e) ≡ false)) →
+escape_read : (names : Option Names) (o : Options) (t : List ℕ) → ((e : Escape) (after : List ℕ) → t ≡ escape_text e ++ after → (begins_reference (escape_head e) ≡ false) × (place_letter (escape_head e) ≡ None)) →
     (r : Option (Tree × List ℕ)) → Atoms.escape_at o t ≡ r → (y : Sym) (rest : List ℕ) → means_escape r ≡ Some (y, rest) → Reads names o (92 ∷ t) y rest
 escape_read names o t free None is y rest e = absurd cc
 escape_read names o t free (Some x) is y rest e =
     let f = character_found o t x.0 x.1 is in
     let fr = free f.escape x.1 f.whole in
     reads_as names o (92 ∷ t) (92 ∷ (escape_text f.escape ++ x.1)) y rest (ap (λ u. 92 ∷ u) f.whole)
-    (reads_by names (Single (Escaped f.escape x.0)) o x.1 y rest (fr.0, fr.1, fr.2, f.is, sym f.means) e)
+    (reads_by names (Single (Escaped f.escape x.0)) o x.1 y rest (fr.0, fr.1, f.is, sym f.means) e)
 
 -- the first of a text
 same_first : (c d : ℕ) (t u : List ℕ) → c ∷ t ≡ d ∷ u → c ≡ d
@@ -289,12 +295,9 @@ same_first c d t u e = cc
 place_or_found : (names : Option Names) (o : Options) (c : ℕ) → begins_reference c ≡ false → (place : Option Position) → place_letter c ≡ place → (t : List ℕ) (y : Sym) (rest : List ℕ) →
     place_or o place c t ≡ Some (y, rest) → Reads names o (92 ∷ c ∷ t) y rest
 place_or_found names o c other (Some place) is t y rest e = reads_by names (Single (Placed c place)) o t y rest is e
-place_or_found names o c other None is t y rest e = elim (chosen (is_later c) _ _ _ e) [
-  | inl h ↦ absurd cc
-  | inr h ↦ escape_read names o (c ∷ t) (λ k after whole.
-      let same = same_first c (escape_head k) t _ whole in
-      (subst (λ d. begins_reference d ≡ false) same other, subst (λ d. place_letter d ≡ None) same is, subst (λ d. is_later d ≡ false) same h.0)) (Atoms.escape_at o (c ∷ t)) refl y rest h.1
-]
+place_or_found names o c other None is t y rest e = escape_read names o (c ∷ t) (λ k after whole.
+    let same = same_first c (escape_head k) t _ whole in
+    (subst (λ d. begins_reference d ≡ false) same other, subst (λ d. place_letter d ≡ None) same is)) (Atoms.escape_at o (c ∷ t)) refl y rest e
 
 -- a reference that is read, with what it means
 back_found : (names : Option Names) (o : Options) (t : List ℕ) (y : Sym) (rest : List ℕ) (r : Referred names o t y rest) (m : Option Tree) → option_map (back_tree o) (meant_in names (key_of r.reference)) ≡ m →
@@ -375,7 +378,7 @@ brackets_found names o t None is y rest e = absurd cc
 brackets_found names o t (Some x) is y rest e =
     let f = class_found 200 o t x.0.0 x.0.1 x.1 is in
     reads_as names o (91 ∷ t) (91 ∷ (inside f.class ++ x.1)) y rest (ap (λ u. 91 ∷ u) f.whole)
-    (reads_by names (Single (Bracketed f.class x.0.0)) o x.1 y rest (f.is, f.low, sym f.means) (ap (λ h. Some (Means (class_built x.0.0 h), x.1)) (sym f.high) ∙ e))
+    (reads_by names (Single (Bracketed f.class x.0.0)) o x.1 y rest (f.is, f.low, sym f.means) (ap (λ h. Some (Means (nested x.0.0 h), x.1)) (sym f.high) ∙ e))
 
 -- A thing that is read is written.
 pub token_found : (names : Option Names) (o : Options) (t : List ℕ) (y : Sym) (rest : List ℕ) → token_at names o t ≡ Some (y, rest) → Reads names o t y rest

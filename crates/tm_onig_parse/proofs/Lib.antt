@@ -7,11 +7,9 @@ pub mod OneRead
 pub mod OpeningsExact
 pub mod Blank
 pub mod Lexing
-pub mod Wide
 pub mod Heights
 pub mod Structure
 pub mod Back
-pub mod Advancing
 pub mod GroupsRead
 pub mod Laws
 pub mod Turns

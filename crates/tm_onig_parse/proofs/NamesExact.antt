@@ -58,10 +58,6 @@ name_to_found d t name rest e =
 no_digit : (c : ℕ) → is_ascii_digit c ≡ false → nat_lt (digit_value c) 10 ≡ false
 no_digit c e = grind (arith, nat_tests)
 
--- what has a digit's value is one
-is_digit : (c : ℕ) → nat_lt (digit_value c) 10 ≡ true → is_ascii_digit c ≡ true
-is_digit c e = grind (arith, nat_tests)
-
 -- digits up to what is none
 digits_read : (ds : List ℕ) (n : Option ℕ) (rest : List ℕ) → list_all is_ascii_digit ds ≡ true → begins_digit rest ≡ false →
     ◌≡◌ {A = Option ℕ × List ℕ} (number_at n (ds ++ rest)) (longer n ds, rest)

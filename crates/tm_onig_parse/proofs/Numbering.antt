@@ -115,7 +115,7 @@ class_leaf m o k = record { numbers = refl; known = refl }
 atom_leaf : (names : Names) (a : Atom) (o : Options) (rest : List ℕ) → IsAtom (Some names) a o rest → IsLeaf (length names) (atom_built a).tree
 unfolding group_numbers references
 atom_leaf names (Plain c tree) o rest is = bare_leaf (length names) tree (subst MaybeBare is.0 (single_bare o c))
-atom_leaf names (Escaped e tree) o rest is = subst (IsLeaf (length names)) is.4 (meant_leaf (length names) o (meant_by e))
+atom_leaf names (Escaped e tree) o rest is = subst (IsLeaf (length names)) is.3 (meant_leaf (length names) o (meant_by e))
 atom_leaf names (Placed c place) o rest is = record { numbers = refl; known = refl }
 atom_leaf names (Bracketed k tree) o rest is = subst (IsLeaf (length names)) is.2 (class_leaf (length names) o k)
 atom_leaf names (Refers r tree) o rest is = back_leaf names (key_of r) o (meant names (key_of r)) tree refl is.1

@@ -6,7 +6,7 @@ use Rattle.tm_onig_parse.specs.declared.ParseFault.{ParseFault}
 use Rattle.tm_onig_parse.specs.declared.ParseFault.TheVariants.{Unreadable, OutOfMemory}
 use Rattle.tm_onig_parse.specs.Meaning.{Built, enclosed}
 use Rattle.tm_onig_atom.specs.Reading.{◌>>=◌}
-use Rattle.tm_onig_parse.specs.Reading.{Close, Level, State, added, level_built, within, is_set, settled, close_in, step, finish}
+use Rattle.tm_onig_parse.specs.Reading.{Close, Level, State, added, level_built, within, is_set, settled, close_in, step}
 use Rattle.tm_onig_parse.specs.Views.{Fails, Steps, levels_of}
 use Rattle.tm_onig_parse.proofs.Back.{within_ok, same_state}
 
@@ -59,11 +59,6 @@ pub close_fails : (fault : ParseFault) (s : State) → Fails fault (settled s.ou
 unfolding step
 close_fails Unreadable s e = rw e refl
 close_fails OutOfMemory s e = tt
-
--- the end where nothing settles
-pub finish_fails : (fault : ParseFault) (s : State) → Fails fault (settled s.outer s.top) → Fails fault (finish s)
-finish_fails Unreadable s e = rw e refl
-finish_fails OutOfMemory s e = tt
 
 -- as many levels as frames
 pub length-levels : (frames : List Frame) → length (levels_of frames) ≡ length frames

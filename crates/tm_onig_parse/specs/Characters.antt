@@ -24,11 +24,8 @@ unfoldable pub place_letter : ℕ → Option Position
 place_letter c =
     if c == 98 then Some Place.Word
     else if c == 66 then Some Place.NotWord
+    else if c == 65 then Some Place.TextStart
+    else if c == 71 then Some Place.SearchStart
     else if c == 90 then Some Place.BeforeFinal
     else if c == 122 then Some Place.TextEnd
     else None
-
--- Letters that are not read behind a backslash so far: `\A` and `\G` are places that the lines of a text
--- do not tell yet.
-unfoldable pub is_later : ℕ → Bool
-is_later c = list_any (λ d. d == c) (codes "AG")

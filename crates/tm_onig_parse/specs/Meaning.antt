@@ -1,8 +1,7 @@
 -- What a pattern means, and which texts are patterns.
-use Rattle.std.specs.Prelude.{◌≡◌, ℕ, ◌+◌, ◌≤◌, ◌&&◌, ◌||◌, nat_lt, Bool, true, false, List, [], ◌∷◌, ◌++◌, map, max, length, Option, Some, None, if◌then◌else◌}
+use Rattle.std.specs.Prelude.{◌≡◌, ℕ, ◌+◌, ◌≤◌, Bool, true, false, List, [], ◌∷◌, ◌++◌, map, max, length, Option, Some, None, if◌then◌else◌}
 use Rattle.tm_onig_atom.specs.Classes.{class_height}
 use Rattle.tm_onig_class.specs.Tree.{Tree, Empty, Cat, Alt, Group, Atomic, Look, Repeat, Holds, trees}
-use Rattle.tm_onig_class.specs.Widths.{least_width}
 use Rattle.tm_onig_parse.specs.declared.groups.Opener.{Opener}
 use Rattle.tm_onig_parse.specs.declared.groups.Opener.TheVariants.{Captures, Groups, Sets, Keeps, Looks}
 use Rattle.tm_onig_parse.specs.declared.quantifiers.Manner.{Manner}
@@ -12,28 +11,26 @@ use Rattle.tm_onig_parse.specs.Names.{Names}
 use Rattle.tm_onig_parse.specs.Things.{Atom, Plain, Escaped, Placed, Bracketed, Refers, opener_of, count, least_of, greatest_of, manner_of, spelling, AreToks, names_among}
 use Rattle.tm_onig_parse.specs.Grammar.{Body, Simply, Under, Alts, First, Also, Row, Nothing, Then, Noted, Piece, Alone, Inside, Repeated, Behind, written, groups, groups_alts, groups_row}
 
--- A tree with how deep its text is nested, whether it is a repetition, and whether each match of it
--- takes a character.
+-- A tree with how deep its text is nested, and whether it is a repetition.
 pub record Built : Type 0 where
   pub tree : Tree
   pub height : ℕ
   pub repeated : Bool
-  pub takes : Bool
+
+-- What is no repetition.
+abbrev pub nested : Tree → ℕ → Built
+nested tree height = record { tree = tree; height = height; repeated = false }
 
 -- What has no parts.
 abbrev pub leaf : Tree → Built
-leaf tree = record { tree = tree; height = 0; repeated = false; takes = nat_lt 0 (least_width tree) }
+leaf tree = nested tree 0
 
--- The same of a class, which may have classes inside.
-abbrev pub class_built : Tree → ℕ → Built
-class_built tree height = record { tree = tree; height = height; repeated = false; takes = nat_lt 0 (least_width tree) }
-
--- What an atom means.
+-- What an atom means. A class may have classes inside.
 abbrev pub atom_built : Atom → Built
 atom_built (Plain c tree) = leaf tree
 atom_built (Escaped e tree) = leaf tree
 atom_built (Placed c place) = leaf (Holds place)
-atom_built (Bracketed k tree) = class_built tree (class_height k)
+atom_built (Bracketed k tree) = nested tree (class_height k)
 atom_built (Refers r tree) = leaf tree
 
 -- The tree alone.
@@ -45,35 +42,25 @@ abbrev pub highest : List Built → ℕ
 highest [] = 0
 highest (b ∷ bs) = max b.height (highest bs)
 
--- One of them takes a character.
-abbrev pub any_takes : List Built → Bool
-any_takes [] = false
-any_takes (b ∷ bs) = b.takes || any_takes bs
-
--- Each of them takes one.
-abbrev pub all_take : List Built → Bool
-all_take [] = true
-all_take (b ∷ bs) = b.takes && all_take bs
-
 -- A row of no parts is empty, of one it is that part.
 abbrev pub row_built : List Built → Built
 row_built [] = leaf Empty
-row_built (t ∷ []) = record { tree = t.tree; height = t.height; repeated = false; takes = t.takes }
-row_built (t ∷ u ∷ ts) = record { tree = Cat (trees (map tree_in (t ∷ u ∷ ts))); height = highest (t ∷ u ∷ ts); repeated = false; takes = any_takes (t ∷ u ∷ ts) }
+row_built (t ∷ []) = nested t.tree t.height
+row_built (t ∷ u ∷ ts) = nested (Cat (trees (map tree_in (t ∷ u ∷ ts)))) (highest (t ∷ u ∷ ts))
 
 -- One alternative is itself.
 abbrev pub alts_built : List Built → Built
 alts_built [] = leaf Empty
-alts_built (t ∷ []) = record { tree = t.tree; height = t.height; repeated = false; takes = t.takes }
-alts_built (t ∷ u ∷ ts) = record { tree = Alt (trees (map tree_in (t ∷ u ∷ ts))); height = highest (t ∷ u ∷ ts); repeated = false; takes = all_take (t ∷ u ∷ ts) }
+alts_built (t ∷ []) = nested t.tree t.height
+alts_built (t ∷ u ∷ ts) = nested (Alt (trees (map tree_in (t ∷ u ∷ ts)))) (highest (t ∷ u ∷ ts))
 
 -- What stands in a group, which has this number if it captures.
 abbrev pub enclosed : Opener → ℕ → Built → Built
-enclosed Captures n b = record { tree = Group n b.tree; height = b.height + 1; repeated = false; takes = b.takes }
-enclosed Groups n b = record { tree = b.tree; height = b.height + 1; repeated = false; takes = b.takes }
-enclosed Sets n b = record { tree = b.tree; height = b.height + 1; repeated = false; takes = b.takes }
-enclosed Keeps n b = record { tree = Atomic b.tree; height = b.height + 1; repeated = false; takes = b.takes }
-enclosed (Looks ahead negative) n b = record { tree = Look b.tree ahead negative; height = b.height + 1; repeated = false; takes = false }
+enclosed Captures n b = nested (Group n b.tree) (b.height + 1)
+enclosed Groups n b = nested b.tree (b.height + 1)
+enclosed Sets n b = nested b.tree (b.height + 1)
+enclosed Keeps n b = nested (Atomic b.tree) (b.height + 1)
+enclosed (Looks ahead negative) n b = nested (Look b.tree ahead negative) (b.height + 1)
 
 -- A repetition of what is repeated counts as a group around it.
 abbrev pub repeated : ℕ → Option ℕ → Bool → Built → Built
@@ -81,12 +68,11 @@ repeated least greatest greedy b = record {
   tree = Repeat b.tree least greatest greedy;
   height = if b.repeated then b.height + 1 else b.height;
   repeated = true;
-  takes = nat_lt 0 least && b.takes;
 }
 
 -- A repetition of which the first success alone counts.
 abbrev pub kept : Built → Built
-kept b = record { tree = Atomic b.tree; height = b.height; repeated = true; takes = b.takes }
+kept b = record { tree = Atomic b.tree; height = b.height; repeated = true }
 
 -- Whether one time more is tried first.
 abbrev pub is_greedy : Manner → Bool
@@ -140,11 +126,10 @@ meaning body = (built body).tree
 abbrev pub names_in : Body → Names
 names_in body = names_among (written body no_options)
 
--- The text is a pattern, written so. Its limits are part of this, and each match takes a character.
+-- The text is a pattern, written so. Its limits are part of this.
 pub record Spells (text : List ℕ) (body : Body) : Type 0 where
   pub whole : text ≡ spelling (written body no_options)
   pub are : AreToks (Some (names_in body)) (written body no_options)
   pub short : length text ≤ 65536
   pub few_groups : groups body ≤ 1000
   pub shallow : (built body).height ≤ 200
-  pub advances : 1 ≤ least_width (meaning body)

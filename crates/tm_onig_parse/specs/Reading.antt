@@ -11,12 +11,12 @@ use Rattle.tm_onig_class.specs.declared.patterns.Position.{Position}
 use Rattle.tm_onig_atom.specs.ClassReading.{class_at}
 use Rattle.tm_onig_atom.specs.NoOptions.{no_options}
 use Rattle.tm_onig_atom.specs.Reading as Atom
-use Rattle.tm_onig_parse.specs.Characters.{single_tree, place_letter, is_later}
+use Rattle.tm_onig_parse.specs.Characters.{single_tree, place_letter}
 use Rattle.tm_onig_atom.specs.Escapes.{begins}
 use Rattle.tm_onig_parse.specs.Names.{Names, is_name_char, starts_name, begins_digit, Key, Number, Name, meant_in}
 use Rattle.tm_onig_parse.specs.Options.{letter}
 use Rattle.tm_onig_parse.specs.Things.{is_blank, begins_reference, back_tree, sign_bounds, begun, count}
-use Rattle.tm_onig_parse.specs.Meaning.{Built, leaf, class_built, row_built, alts_built, enclosed, quantified}
+use Rattle.tm_onig_parse.specs.Meaning.{Built, nested, leaf, row_built, alts_built, enclosed, quantified}
 use Rattle.tm_onig_atom.specs.Reading.{◌>>=◌, rest_of}
 
 -- What is left of one thing once it is read.
@@ -203,7 +203,7 @@ means_escape (Some x) = Some (Means (leaf x.0), x.1)
 -- a place, or else an escape
 abbrev pub place_or : Options → Option Position → ℕ → List ℕ → Found
 place_or o (Some place) c t = Some (Means (leaf (Holds place)), t)
-place_or o None c t = if is_later c then None else means_escape (Atom.escape_at o (c ∷ t))
+place_or o None c t = means_escape (Atom.escape_at o (c ∷ t))
 
 -- what stands behind a backslash
 unfoldable pub escape_at : Option Names → Options → List ℕ → Found
@@ -213,7 +213,7 @@ escape_at names o (c ∷ t) = if begins_reference c then reference_at names o (c
 -- a class, if there is one
 abbrev pub means_class : Option ((Tree × ℕ) × List ℕ) → Found
 means_class None = None
-means_class (Some x) = Some (Means (class_built x.0.0 x.0.1), x.1)
+means_class (Some x) = Some (Means (nested x.0.0 x.0.1), x.1)
 
 -- the end of the line
 unfoldable pub line_end : List ℕ → List ℕ
@@ -336,13 +336,9 @@ step (Repeats least greatest manner) s =
     (change_last (more_times least greatest manner) s.top.row)
 step Skips s = Some s
 
--- each match takes a character
-abbrev pub advancing : Built → Option Tree
-advancing b = if b.takes then Some b.tree else None
-
 -- the tree, where no group is open
 abbrev pub finish_in : List Level × Level → Option Tree
-finish_in ([], top) = within (level_built top) >>= advancing
+finish_in ([], top) = within (level_built top) >>= λ b. Some b.tree
 finish_in (level ∷ outer, top) = None
 
 -- the tree at the end of the text

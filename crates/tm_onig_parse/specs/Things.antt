@@ -14,7 +14,7 @@ use Rattle.tm_onig_parse.specs.declared.quantifiers.Manner.TheVariants.{Greedy, 
 use Rattle.tm_onig_class.specs.declared.patterns.Position.{Position}
 use Rattle.tm_onig_atom.specs.Classes.{Class, class_text, IsClass, class_height, class_tree}
 use Rattle.tm_onig_atom.specs.Escapes.{begins, Escape, escape_head, escape_text, IsEscape, escape_tree}
-use Rattle.tm_onig_parse.specs.Characters.{single_tree, place_letter, is_later}
+use Rattle.tm_onig_parse.specs.Characters.{single_tree, place_letter}
 use Rattle.tm_onig_parse.specs.Intervals.{Bounds, Exactly, bounds_text, IsBounds, NoBounds, least_in, greatest_in, AreLimited}
 use Rattle.tm_onig_parse.specs.Names.{Names, IsName, Reference, reference_text, IsReference, key_of, meant_in}
 use Rattle.tm_onig_parse.specs.Options.{switched}
@@ -53,12 +53,11 @@ abbrev pub back_tree : Options → List ℕ → Tree
 back_tree o groups = Back groups o.fold
 
 -- It is one under these options, before what follows, where the pattern has these groups. A `{` begins
--- no bounds. Behind a backslash a reference, a place, and a letter that is not read so far come before
--- what is an escape in classes.
+-- no bounds. Behind a backslash a reference and a place come before what is an escape in classes.
 abbrev pub IsAtom : Option Names → Atom → Options → List ℕ → Type 0
 IsAtom names (Plain c tree) o rest = (single_tree o c ≡ Some tree) × (skips o c ≡ false) × (c ≡ 123 → NoBounds rest)
 IsAtom names (Escaped e tree) o rest =
-    (begins_reference (escape_head e) ≡ false) × (place_letter (escape_head e) ≡ None) × (is_later (escape_head e) ≡ false) × IsEscape e rest × (escape_tree o e ≡ tree)
+    (begins_reference (escape_head e) ≡ false) × (place_letter (escape_head e) ≡ None) × IsEscape e rest × (escape_tree o e ≡ tree)
 IsAtom names (Placed c place) o rest = place_letter c ≡ Some place
 IsAtom names (Bracketed k tree) o rest = IsClass k rest × (class_height k ≤ 200) × (class_tree o k ≡ tree)
 IsAtom names (Refers r tree) o rest = IsReference r rest × (option_map (back_tree o) (meant_in names (key_of r)) ≡ Some tree)

@@ -40,7 +40,7 @@ FaultOf A.OutOfMemory fault = fault ≡ OutOfMemory
 
 -- what a part stands for
 abbrev pub built_of : Part → Built
-built_of p = record { tree = tree_of p.pattern; height = p.height; repeated = p.repeated; takes = p.takes }
+built_of p = record { tree = tree_of p.pattern; height = p.height; repeated = p.repeated }
 
 -- a group's name, if it has one
 abbrev pub name_of_chars : Option (Vec ℕ Global) → Option (List ℕ)

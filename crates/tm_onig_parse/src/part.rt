@@ -7,13 +7,11 @@ use tm_onig_class::patterns::Pattern;
 /// go by a call for each level, so none that is deeper is made.
 pub const DEEPEST: u32 = 200;
 
-/// A pattern, with how deep its text is nested, whether it is a repetition, and whether each match
-/// of it takes a character.
+/// A pattern, with how deep its text is nested, and whether it is a repetition.
 #[derive(Drop)]
 pub struct Part {
     pub pattern: Pattern,
     pub height: u32,
     pub repeated: bool,
-    pub takes: bool,
     pub ghost low: { height ≤ 200 },
 }

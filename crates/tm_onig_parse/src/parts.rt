@@ -1,8 +1,7 @@
 //! What is made of parts: rows, alternatives, groups and repetitions.
-ghost use Rattle.std.specs.Prelude.{◌≡◌, ◌≤◌, ◌+◌, false, true, nat_lt, if◌then◌else◌, Some, ◌++◌, ◌∷◌, [], map};
+ghost use Rattle.std.specs.Prelude.{◌≡◌, ◌≤◌, ◌+◌, if◌then◌else◌, Some, ◌++◌, ◌∷◌, [], map};
 ghost use Rattle.tm_onig_class.specs.Tree.{tree_of};
-ghost use Rattle.tm_onig_class.specs.Widths.{least_width};
-ghost use Rattle.tm_onig_parse.specs.Meaning.{leaf, class_built, row_built, alts_built, enclosed, repeated, highest, any_takes, all_take, tree_in};
+ghost use Rattle.tm_onig_parse.specs.Meaning.{nested, leaf, row_built, alts_built, enclosed, repeated, highest, tree_in};
 ghost use Rattle.tm_onig_parse.specs.Reading.{within};
 ghost use Rattle.tm_onig_parse.specs.Views.{Gives, Steps, built_of};
 
@@ -13,32 +12,23 @@ use sqlite_items::Items;
 use std::alloc::Global;
 use tm_onig_class::patterns::Pattern;
 
-/// A part that has no parts.
-pub fn leaf(pattern: Pattern, takes: bool) -> Part
-    requires { takes ≡ nat_lt 0 (least_width (tree_of pattern)) }
-    ensures { built_of result ≡ leaf (tree_of pattern) }
+/// A part that is no repetition.
+pub fn nested(pattern: Pattern, height: u32) -> Part
+    requires { height ≤ 200 }
+    ensures { built_of result ≡ nested (tree_of pattern) height }
 {
-    Part {
-        pattern,
-        height: 0,
-        repeated: false,
-        takes,
-    }
-}
-
-/// A class, with how deep it is nested.
-pub fn class_part(class: (Pattern, u32)) -> Part
-    requires low { class.1 ≤ 200 }
-    requires wide { nat_lt 0 (least_width (tree_of class.0)) ≡ true }
-    ensures { built_of result ≡ class_built (tree_of class.0) class.1 }
-{
-    let (pattern, height) = class;
     Part {
         pattern,
         height,
         repeated: false,
-        takes: true,
     }
+}
+
+/// A part that has no parts.
+pub fn leaf(pattern: Pattern) -> Part
+    ensures { built_of result ≡ leaf (tree_of pattern) }
+{
+    nested(pattern, 0)
 }
 
 fn patterns(alloc: Global, parts: Vec<Part>) -> Result<Vec<Pattern>, ParseFault>
@@ -65,26 +55,6 @@ fn highest_of(parts: &[Part]) -> u32
     high
 }
 
-fn one_takes(parts: &[Part]) -> bool
-    ensures { result ≡ any_takes (map built_of parts.now) }
-{
-    let mut takes = false;
-    for part in parts {
-        takes |= part.takes;
-    }
-    takes
-}
-
-fn each_takes(parts: &[Part]) -> bool
-    ensures { result ≡ all_take (map built_of parts.now) }
-{
-    let mut takes = true;
-    for part in parts {
-        takes &= part.takes;
-    }
-    takes
-}
-
 /// The part itself, as the only one of a row or of a group.
 fn alone(part: Part) -> Part
     ensures { built_of result ≡ row_built (built_of part ∷ []) }
@@ -93,61 +63,43 @@ fn alone(part: Part) -> Part
         pattern,
         height,
         repeated: _,
-        takes,
     } = part;
-    Part {
-        pattern,
-        height,
-        repeated: false,
-        takes,
-    }
+    nested(pattern, height)
 }
 
 /// The parts in a row.
-#[tactic(auto, using(tm_onig_class::proofs::Trees::nodes), unfolding(tm_onig_class::specs::Widths::least_width))]
+#[tactic(auto, using(tm_onig_class::proofs::Trees::nodes))]
 pub fn row_of(alloc: Global, mut parts: Vec<Part>) -> Result<Part, ParseFault>
     ensures { Gives built_of result (Some (row_built (map built_of parts.items))) }
 {
     if parts.len() > 1 {
         let height = highest_of(&parts);
-        let takes = one_takes(&parts);
         return match patterns(alloc, parts) {
-            Ok(parts) => Ok(Part {
-                pattern: Pattern::Cat(Items::from_vec(parts)),
-                height,
-                repeated: false,
-                takes,
-            }),
+            Ok(parts) => Ok(nested(Pattern::Cat(Items::from_vec(parts)), height)),
             Err(fault) => Err(fault),
         };
     }
     match parts.pop() {
         Some(part) => Ok(alone(part)),
-        None => Ok(leaf(Pattern::Empty, false)),
+        None => Ok(leaf(Pattern::Empty)),
     }
 }
 
 /// The parts as alternatives.
-#[tactic(auto, using(tm_onig_class::proofs::Trees::nodes), unfolding(tm_onig_class::specs::Widths::least_width))]
+#[tactic(auto, using(tm_onig_class::proofs::Trees::nodes))]
 pub fn alternatives_of(alloc: Global, mut parts: Vec<Part>) -> Result<Part, ParseFault>
     ensures { Gives built_of result (Some (alts_built (map built_of parts.items))) }
 {
     if parts.len() > 1 {
         let height = highest_of(&parts);
-        let takes = each_takes(&parts);
         return match patterns(alloc, parts) {
-            Ok(parts) => Ok(Part {
-                pattern: Pattern::Alt(Items::from_vec(parts)),
-                height,
-                repeated: false,
-                takes,
-            }),
+            Ok(parts) => Ok(nested(Pattern::Alt(Items::from_vec(parts)), height)),
             Err(fault) => Err(fault),
         };
     }
     match parts.pop() {
         Some(part) => Ok(alone(part)),
-        None => Ok(leaf(Pattern::Empty, false)),
+        None => Ok(leaf(Pattern::Empty)),
     }
 }
 
@@ -160,19 +112,6 @@ pub fn push(parts: &mut Vec<Part>, part: Part) -> Result<(), ParseFault>
     Ok(())
 }
 
-/// A part that is a group.
-fn enclosing(pattern: Pattern, height: u32, takes: bool) -> Part
-    requires { height ≤ 200 }
-    ensures { built_of result ≡ record { tree = tree_of pattern; height = height; repeated = false; takes = takes } }
-{
-    Part {
-        pattern,
-        height,
-        repeated: false,
-        takes,
-    }
-}
-
 /// A group around a part. The number is that of a group that captures.
 #[tactic(auto, using(tm_onig_class::proofs::Trees::nodes))]
 pub fn group(alloc: Global, opener: Opener, number: u32, body: Part) -> Result<Part, ParseFault>
@@ -182,7 +121,6 @@ pub fn group(alloc: Global, opener: Opener, number: u32, body: Part) -> Result<P
         pattern,
         height,
         repeated: _,
-        takes,
     } = body;
     if height >= DEEPEST {
         return Err(ParseFault::Unreadable);
@@ -193,14 +131,14 @@ pub fn group(alloc: Global, opener: Opener, number: u32, body: Part) -> Result<P
             let Ok(body) = Box::new(alloc, pattern) else {
                 return Err(ParseFault::OutOfMemory);
             };
-            Ok(enclosing(Pattern::Group { number, body }, height, takes))
+            Ok(nested(Pattern::Group { number, body }, height))
         }
-        Opener::Groups | Opener::Sets => Ok(enclosing(pattern, height, takes)),
+        Opener::Groups | Opener::Sets => Ok(nested(pattern, height)),
         Opener::Keeps => {
             let Ok(body) = Box::new(alloc, pattern) else {
                 return Err(ParseFault::OutOfMemory);
             };
-            Ok(enclosing(Pattern::Atomic(body), height, takes))
+            Ok(nested(Pattern::Atomic(body), height))
         }
         Opener::Looks { ahead, negative } => {
             let Ok(body) = Box::new(alloc, pattern) else {
@@ -211,7 +149,7 @@ pub fn group(alloc: Global, opener: Opener, number: u32, body: Part) -> Result<P
                 ahead,
                 negative,
             };
-            Ok(enclosing(pattern, height, false))
+            Ok(nested(pattern, height))
         }
     }
 }
@@ -239,7 +177,6 @@ pub fn repeat(
         pattern,
         height,
         repeated,
-        takes,
     } = part;
     let height = height_of_repeat(height, repeated);
     if height > DEEPEST {
@@ -257,6 +194,5 @@ pub fn repeat(
         },
         height,
         repeated: true,
-        takes: least > 0 && takes,
     })
 }

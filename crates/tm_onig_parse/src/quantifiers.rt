@@ -43,7 +43,6 @@ fn keep(alloc: Global, part: Part) -> Result<Part, ParseFault>
         pattern,
         height,
         repeated: _,
-        takes,
     } = part;
     let Ok(body) = Box::new(alloc, pattern) else {
         return Err(ParseFault::OutOfMemory);
@@ -52,7 +51,6 @@ fn keep(alloc: Global, part: Part) -> Result<Part, ParseFault>
         pattern: Pattern::Atomic(body),
         height,
         repeated: true,
-        takes,
     })
 }
 

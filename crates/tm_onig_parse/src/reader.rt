@@ -195,13 +195,7 @@ fn finished(alloc: Global, reader: Reader) -> Result<Pattern, ParseFault>
         return Err(ParseFault::Unreadable);
     }
     match whole(alloc, top) {
-        Ok(part) => {
-            if part.takes {
-                Ok(part.pattern)
-            } else {
-                Err(ParseFault::Unreadable)
-            }
-        }
+        Ok(part) => Ok(part.pattern),
         Err(fault) => Err(fault),
     }
 }

@@ -106,13 +106,13 @@ fn by_name(alloc: Global, groups: &GroupNames, name: &[char]) -> Result<Vec<u32>
 }
 
 /// A reference to groups.
-#[tactic(auto, using(tm_onig_class::proofs::Trees::nodes), unfolding(tm_onig_class::specs::Widths::least_width))]
+#[tactic(auto, using(tm_onig_class::proofs::Trees::nodes))]
 fn back(options: Options, numbers: Vec<u32>) -> Token
     ensures { sym_of_token result ≡ Means (leaf (back_tree options numbers.items)) }
 {
     let fold = options.fold;
     let groups = Items::from_vec(numbers);
-    Token::Means(leaf(Pattern::Back { groups, fold }, false))
+    Token::Means(leaf(Pattern::Back { groups, fold }))
 }
 
 fn numbered<'a>(

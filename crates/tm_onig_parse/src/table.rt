@@ -219,23 +219,54 @@ a{2 => row 3 'a '{ '2
 a{2,3 => row 5 'a '{ '2 ', '3
 a{-1} => row 5 'a '{ '- '1 '}
 { 1} => row 4 '{ '  '1 '}
-# no match advances by less than one character
- =>
-a* =>
-a? =>
-^ =>
-\b =>
-a| =>
-a|b* =>
-() =>
-(?=a) =>
-(?<!a)+ =>
-(?>a*) =>
-(?>) =>
-(a*)+ =>
-a{0} =>
-a{,2} =>
-a{2}? =>
+# patterns that may match no character
+ => empty
+a* => times 0.. 'a
+a? => times 0..1 'a
+^ => LineStart
+$ => LineEnd
+\b => Word
+\B => NotWord
+\Z => BeforeFinal
+\z => TextEnd
+a| => either 2 'a empty
+| => either 2 empty empty
+a||b => either 3 'a empty 'b
+a|b* => either 2 'a times 0.. 'b
+() => group 1 empty
+(?:) => empty
+(|a)+ => times 1.. group 1 either 2 empty 'a
+(?=a) => ahead 'a
+(?=x) => ahead 'x
+(?<!a)+ => times 1.. not-behind 'a
+(?>a*) => atomic times 0.. 'a
+(?>) => atomic empty
+(a*)+ => times 1.. group 1 times 0.. 'a
+(a?)\1 => row 2 group 1 times 0..1 'a back-1
+(a)|\1 => either 2 group 1 'a back-1
+a{0} => times 0..0 'a
+a{,2} => times 0..2 'a
+a{2}? => times 0..1 times 2..2 'a
+(?#c) => empty
+(?i) => empty
+(?x) #c => empty
+# where a text starts, and where a search starts
+\A => TextStart
+\G => SearchStart
+\Aa => row 2 TextStart 'a
+\Ga => row 2 SearchStart 'a
+\A\G => row 2 TextStart SearchStart
+\\A => row 2 '\ 'A
+a|\G => either 2 'a SearchStart
+(\G)a => row 2 group 1 SearchStart 'a
+(?!\G) => not-ahead SearchStart
+(?<=\A)a => row 2 behind TextStart 'a
+\A* => times 0.. TextStart
+\G{2} => times 2..2 SearchStart
+\G(?#c)?+ => atomic times 0..1 SearchStart
+(?i)\Ga => row 2 SearchStart ~a
+(?x)\A \G => row 2 TextStart SearchStart
+[\G-\z] => set[abz]^_]
 # characters by number
 \x41 => 'A
 \x4 => code-4
@@ -302,10 +333,6 @@ a{2}? =>
 (?i)[[^a]] => set[bz-]^&09_.# é]
 (?i)[a-b\d] => set[abA09]
 (?i)[\p{Ll}&&A] => set[aA]
-# what comes later
-\Aa =>
-\Ga =>
-\z =>
 # characters by a number that is none, and names that no set has
 \x =>
 \xg =>
@@ -387,7 +414,6 @@ a(?i)* =>
 a(?i)) =>
 (?I)a =>
 # never patterns
-(?#c) =>
 (?#c =>
 (?#c)*a =>
 a|(?#c)+ =>

@@ -158,7 +158,7 @@ fn texts_and_trees(rt: HostRuntime) -> Result<(), Fail> {
             assert_eq!(rt; found.as_str(), tree, "of {text}");
         }
     }
-    assert_eq!(rt; rows, 393);
+    assert_eq!(rt; rows, 419);
     Ok(())
 }
 

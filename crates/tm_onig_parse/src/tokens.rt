@@ -14,7 +14,7 @@ use crate::intervals::{bounds, interval};
 use crate::names::GroupNames;
 use crate::openings::open;
 use crate::part::{DEEPEST, Part};
-use crate::parts::{class_part, leaf};
+use crate::parts::{leaf, nested};
 use crate::quantifiers::Manner;
 use crate::references::{begins_reference, reference};
 use crate::{ParseFault, fault_of};
@@ -49,27 +49,21 @@ pub enum Token {
 }
 
 /// What a character means that stands alone.
-#[tactic(auto, using(tm_onig_class::proofs::Trees::nodes), unfolding(crate::specs::Characters::single_tree, crate::specs::Characters::is_special, tm_onig_class::specs::Widths::least_width))]
+#[tactic(auto, using(tm_onig_class::proofs::Trees::nodes), unfolding(crate::specs::Characters::single_tree, crate::specs::Characters::is_special))]
 fn single(options: Options, c: char) -> Option<Part>
     ensures { option_map built_of result ≡ option_map leaf (single_tree options c) }
 {
     match c {
-        '.' => Some(leaf(
-            Pattern::Any {
-                newline: options.newline,
-            },
-            true,
-        )),
-        '^' => Some(leaf(Pattern::Position(Position::LineStart), false)),
-        '$' => Some(leaf(Pattern::Position(Position::LineEnd), false)),
+        '.' => Some(leaf(Pattern::Any {
+            newline: options.newline,
+        })),
+        '^' => Some(leaf(Pattern::Position(Position::LineStart))),
+        '$' => Some(leaf(Pattern::Position(Position::LineEnd))),
         '(' | ')' | '[' | '|' | '?' | '*' | '+' | '\\' => None,
-        _ => Some(leaf(
-            Pattern::Char {
-                c,
-                fold: options.fold,
-            },
-            true,
-        )),
+        _ => Some(leaf(Pattern::Char {
+            c,
+            fold: options.fold,
+        })),
     }
 }
 
@@ -147,6 +141,8 @@ fn place(c: char) -> Option<Position>
     match c {
         'b' => Some(Position::Word),
         'B' => Some(Position::NotWord),
+        'A' => Some(Position::TextStart),
+        'G' => Some(Position::SearchStart),
         'Z' => Some(Position::BeforeFinal),
         'z' => Some(Position::TextEnd),
         _ => None,
@@ -163,13 +159,13 @@ fn escaped<'a>(
     ensures { Gives (λ x. (sym_of_token x.0, x.1.now)) result (means_escape (Atom.escape_at options text.now)) }
 {
     match escape(alloc, sets, options, text) {
-        Ok((pattern, rest)) => Ok((Token::Means(leaf(pattern, true)), rest)),
+        Ok((pattern, rest)) => Ok((Token::Means(leaf(pattern)), rest)),
         Err(fault) => Err(fault_of(fault)),
     }
 }
 
 /// A place, or else an escape.
-#[tactic(auto, using(tm_onig_class::proofs::Trees::nodes), unfolding(crate::specs::Characters::is_later, tm_onig_class::specs::Widths::least_width))]
+#[tactic(auto, using(tm_onig_class::proofs::Trees::nodes))]
 fn place_or<'a>(
     alloc: Global,
     sets: &mut Sets,
@@ -181,12 +177,9 @@ fn place_or<'a>(
     requires { text.now ≡ c ∷ rest.now }
     ensures { Gives (λ x. (sym_of_token x.0, x.1.now)) result (place_or options (place_letter c) c rest.now) }
 {
-    if let Some(place) = place(c) {
-        return Ok((Token::Means(leaf(Pattern::Position(place), false)), rest));
-    }
-    match c {
-        'A' | 'G' => Err(ParseFault::Unreadable),
-        _ => escaped(alloc, sets, options, text),
+    match place(c) {
+        Some(place) => Ok((Token::Means(leaf(Pattern::Position(place))), rest)),
+        None => escaped(alloc, sets, options, text),
     }
 }
 
@@ -222,7 +215,7 @@ fn brackets<'a>(
     ensures { Gives (λ x. (sym_of_token x.0, x.1.now)) result (means_class (class_at 200 options text.now)) }
 {
     match class(alloc, sets, options, DEEPEST, text) {
-        Ok((found, rest)) => Ok((Token::Means(class_part(found)), rest)),
+        Ok(((pattern, height), rest)) => Ok((Token::Means(nested(pattern, height)), rest)),
         Err(fault) => Err(fault_of(fault)),
     }
 }
