@@ -13,4 +13,6 @@ mod scan_tests;
 mod setup;
 pub mod status;
 #[cfg(test)]
+mod stuck_tests;
+#[cfg(test)]
 mod tests;

@@ -74,7 +74,10 @@ fn play_setup<S: Sink>(alloc: Global, setup: Setup, out: &mut S) -> Result<bool,
     let Ok(lines) = lines::split(alloc, text.as_slice()) else {
         return Err(Fault::OutOfMemory);
     };
-    let settings = [grammar.into_setting(alloc)];
+    let Ok(setting) = grammar.into_setting(alloc) else {
+        return Err(Fault::OutOfMemory);
+    };
+    let settings = [setting];
     counted::<S, Brand>(
         alloc,
         Blank::new(1),

@@ -3,6 +3,7 @@
 use crate::outcome;
 use crate::tests::{SETTINGS, files_of, list};
 use std::alloc::Global;
+use std::process::Abort;
 use std::test::Fail;
 use tm_outside::honest::HonestSink;
 
@@ -157,6 +158,56 @@ const ROWS: [(&str, &str, &str); 33] = [
     ),
 ];
 
+/// The same of patterns of every form.
+const FORMS: [(&str, &str, &str); 9] = [
+    (
+        r#"[{"match":"(?i)let","name":"string.t"}]"#,
+        "LET lEt x",
+        "0s 3o 4s 7o",
+    ),
+    (
+        r#"[{"match":"(a|b)c\\1","name":"string.t"}]"#,
+        "acbaca",
+        "0o 3s",
+    ),
+    (
+        r#"[{"match":"\\p{Lu}+","name":"string.t"}]"#,
+        "abCDe",
+        "0o 2s 4o",
+    ),
+    (
+        r#"[{"match":"[a-z&&[^b]]+","name":"comment.t"}]"#,
+        "abca",
+        "0c 1o 2c",
+    ),
+    (
+        r#"[{"match":"(?x) a b # both","name":"comment.t"}]"#,
+        "xab",
+        "0o 1c",
+    ),
+    (
+        r#"[{"match":"\\x41(?<n>b)\\k<n>","name":"string.t"}]"#,
+        "abAbb",
+        "0o 2s",
+    ),
+    // What is no pattern matches nowhere.
+    (
+        r#"[{"match":"a("},{"match":"a","name":"comment.t"}]"#,
+        "ba",
+        "0o 1c",
+    ),
+    (
+        r#"[{"begin":"a","end":"b(","name":"comment.t"}]"#,
+        "cab",
+        "0o 1c",
+    ),
+    (
+        r#"[{"begin":"[","end":"a","name":"comment.t"},{"match":"a","name":"string.t"}]"#,
+        "a[a",
+        "0s 1o 2s",
+    ),
+];
+
 fn grammar_of(alloc: Global, patterns: &str) -> Result<String, Fail> {
     let mut text = String::from_str(alloc, "{\"scopeName\":\"source.t\",\"patterns\":")?;
     text.push_str(patterns)?;
@@ -202,17 +253,32 @@ fn scanned(alloc: Global, grammar: &str, text: &str, out: &mut HonestSink) -> Re
     Ok(outcome::run(alloc, &words, &mut files, out, &mut err).code())
 }
 
+/// Whether a scan of the text prints these tokens.
+pub fn gives_tokens(
+    rt: &impl Abort,
+    alloc: Global,
+    patterns: &str,
+    text: &str,
+    tokens: &str,
+) -> Result<(), Fail> {
+    let grammar = grammar_of(alloc, patterns)?;
+    let want = printed(alloc, tokens)?;
+    let mut out = HonestSink::new(Vec::new(alloc));
+    let code = scanned(alloc, grammar.as_str(), text, &mut out)?;
+    assert_eq!(rt; code, 0, "{patterns}");
+    assert_eq!(rt; out.bytes(), want.as_bytes(), "{patterns}");
+    Ok(())
+}
+
 /// Each row, by a scan.
 #[test]
 fn grammars_give_tokens(rt: HostRuntime) -> Result<(), Fail> {
     let alloc = rt.alloc();
     for (patterns, text, tokens) in ROWS {
-        let grammar = grammar_of(alloc, patterns)?;
-        let want = printed(alloc, tokens)?;
-        let mut out = HonestSink::new(Vec::new(alloc));
-        let code = scanned(alloc, grammar.as_str(), text, &mut out)?;
-        assert_eq!(rt; code, 0, "{patterns}");
-        assert_eq!(rt; out.bytes(), want.as_bytes(), "{patterns}");
+        gives_tokens(&rt, alloc, patterns, text, tokens)?;
+    }
+    for (patterns, text, tokens) in FORMS {
+        gives_tokens(&rt, alloc, patterns, text, tokens)?;
     }
     Ok(())
 }

@@ -29,13 +29,9 @@ pub struct Grammar {
 }
 
 impl Model for Grammar {
-    ghost use Rattle.std.specs.Coded.{codes};
-    ghost use Rattle.tm_onig_class.specs.contracts.patterns.Pattern as pattern;
     ghost use Rattle.tm_line.specs.Setting.{BuiltSetting};
 
     ghost Value = { BuiltSetting };
-
-    ghost coded = { Prim.hlevel (codes, pattern.the_row.coded) };
 
     ghost view = { λ a. record { scope = a.scope; rules = a.rules.items } };
 }
@@ -55,9 +51,9 @@ impl Grammar {
         self.rules.as_slice()
     }
 
-    /// The tokenizer of this grammar.
-    pub fn into_setting(self, alloc: Global) -> Setting
-        ensures { setting_data result ≡ setting_data self }
+    /// The tokenizer of this grammar, with its patterns read.
+    pub fn into_setting(self, alloc: Global) -> Result<Setting, OutOfMemory>
+        ensures { IfOk result (λ setting. setting_data setting ≡ setting_data self) }
     {
         Setting::build(alloc, self.scope, self.rules)
     }

@@ -1,15 +1,13 @@
-//! The patterns of a grammar: each text is read and compiled once.
-ghost use Rattle.std.specs.Prelude.{◌≡◌, option_map, option_and_then, IfOk, chars};
+//! The texts of the patterns of a grammar.
+ghost use Rattle.std.specs.Prelude.{◌≡◌, option_map, IfOk, chars};
 ghost use Rattle.serde_json.specs.View.{view};
-ghost use Rattle.tm_onig_class.specs.Tree.{tree_of};
-ghost use Rattle.tm_forms.specs.Patterns.{pattern_of, pattern_at};
+ghost use Rattle.tm_onig_parse.specs.Reading.{parsed};
+ghost use Rattle.tm_forms.specs.Patterns.{not_empty, pattern_of, pattern_at};
 
 use serde_json::Value;
 use std::alloc::Global;
 use tm_defs::memory::OutOfMemory;
 use tm_defs::texts::Name;
-use tm_onig_parse::{ParseFault, parse};
-use tm_onig_vm::program::{Prog, compile};
 
 fn name_of(alloc: Global, text: &str) -> Result<Name, OutOfMemory>
     ensures { IfOk result (λ name. name ≡ chars text.now) }
@@ -17,27 +15,29 @@ fn name_of(alloc: Global, text: &str) -> Result<Name, OutOfMemory>
     Ok(Name::new(text.chars().collect(alloc)?))
 }
 
-/// The program of a pattern's text; none where the text is no pattern.
-fn program_of(alloc: Global, text: &str) -> Result<Option<Prog>, OutOfMemory>
-    ensures { IfOk result (λ found. option_map tree_of found ≡ pattern_of text.now) }
+fn filled(name: Name) -> Option<Name>
+    ensures { result ≡ not_empty name }
 {
-    let name = name_of(alloc, text)?;
-    match parse(alloc, &name) {
-        Ok(pattern) => {
-            let prog = compile(alloc, &pattern)?;
-            Ok(Some(prog))
-        }
-        Err(ParseFault::Unreadable) => Ok(None),
-        Err(ParseFault::OutOfMemory) => Err(OutOfMemory),
+    if name.as_slice().is_empty() {
+        None
+    } else {
+        Some(name)
     }
 }
 
-/// The pattern at a key.
-pub fn pattern_in(alloc: Global, value: &Value, key: &str) -> Result<Option<Prog>, OutOfMemory>
-    ensures { IfOk result (λ found. option_map tree_of found ≡ pattern_at key.now (view value.now)) }
+/// The text of a pattern; none where it is empty.
+fn text_of(alloc: Global, text: &str) -> Result<Option<Name>, OutOfMemory>
+    ensures { IfOk result (λ found. option_map parsed found ≡ pattern_of text.now) }
+{
+    Ok(filled(name_of(alloc, text)?))
+}
+
+/// The text of the pattern at a key.
+pub fn pattern_in(alloc: Global, value: &Value, key: &str) -> Result<Option<Name>, OutOfMemory>
+    ensures { IfOk result (λ found. option_map parsed found ≡ pattern_at key.now (view value.now)) }
 {
     match value.get(key).and_then(Value::as_str) {
-        Some(text) => program_of(alloc, text),
+        Some(text) => text_of(alloc, text),
         None => Ok(None),
     }
 }

@@ -1,7 +1,7 @@
 pub mod Budgets
 pub mod Causes
-pub mod Earliest
 pub mod Found
+pub mod Insides
 pub mod Lines
 pub mod Paths
 pub mod Starts

@@ -25,7 +25,7 @@ use Rattle.tm_line.specs.declared.turn.Next.{Next}
 use Rattle.tm_line.specs.declared.turn.Next.TheVariants as next
 use Rattle.tm_line.specs.Grammar.{match_of, names_of, started, of_candidate, of_found, rules_grammar}
 use Rattle.tm_meta.specs.Metadata.{metadata_of}
-use Rattle.tm_line.specs.Search.{Candidate, earliest_winner, searches_cost, flattened_candidates}
+use Rattle.tm_line.specs.Search.{Candidate, earliest, searches_cost, flattened_candidates}
 use Rattle.tm_line.specs.Searched.{Searches}
 use Rattle.tm_line.specs.Tokenizing.{Spot, place_of}
 use Rattle.tm_line.specs.Turned.{Does, Takes, IsHere, StopsAt, GoesOnAt, place_here, spot_in, moved, is_stuck_end, is_stuck_begin, entered_spot, part_of, made_in, turn_of, candidate_turn, taken_turn, of_table}
@@ -253,15 +253,15 @@ module _ (rules : List Rule) (text : List ℕ) where
 
   -- the turn at a state is the turn of the winner that was found there
   does-turn : (t u : Tables) (old new : List Painted) (w v : Spot) (result : Result Next TableFault) (h : Here) (has_end anchored : Bool) (won : Option Found) → state_at t h.state ≡ deeper_state t h.below h.frame →
-      has_end ≡ some_open (reverse (state_at t h.below)) → anchored ≡ is_anchored w.anchor w.at → won ≡ earliest_winner text w.at w.first anchored (flattened_candidates rules has_end h.frame.rule) →
+      has_end ≡ some_open (reverse (state_at t h.below)) → anchored ≡ is_anchored w.anchor w.at → won ≡ earliest text w.at w.first anchored (flattened_candidates rules has_end h.frame.rule) →
       Does (taken_turn rules (length text) (place_here t h w) won) t u old new v result → Does (turn g (place_of (reverse (state_at t h.state)) w)) t u old new v result
   does-turn t u old new w v result h has_end anchored won split has at is done =
       let P : Place → Type 0 = λ p. Does (turn g p) t u old new v result in
       let Q : Option Found → Type 0 = λ x. Does (by_winner g (place_here t h w) (of_found rules x)) t u old new v result in
       let R : Turn → Type 0 = λ x. Does x t u old new v result in
       subst P (place-here t h w split) (does-paid _ (by_winner g (place_here t h w) _) t u old new v result
-      (subst Q (is ∙ ap (λ b. earliest_winner text w.at w.first anchored (flattened_candidates rules b h.frame.rule)) has
-      ∙ ap (λ b. earliest_winner text w.at w.first b (flattened_candidates rules (some_open (reverse (state_at t h.below))) h.frame.rule)) at) (subst R (taken_turn-is (place_here t h w) won) done)))
+      (subst Q (is ∙ ap (λ b. earliest text w.at w.first anchored (flattened_candidates rules b h.frame.rule)) has
+      ∙ ap (λ b. earliest text w.at w.first b (flattened_candidates rules (some_open (reverse (state_at t h.below))) h.frame.rule)) at) (subst R (taken_turn-is (place_here t h w) won) done)))
 
   paid-cost : (steps : ℕ) (turn : Turn) → (part_of (paid steps turn)).cost ≡ steps + (part_of turn).cost
   paid-cost steps (Stops part stack) = refl
@@ -290,13 +290,13 @@ module _ (rules : List Rule) (text : List ℕ) where
     abbrev the_turn : Turn
     the_turn = turn g (place_of (reverse (state_at t h.state)) w)
 
-    pub takes-ok : (won : Option Found) (next : Next) → Searches (earliest_winner text w.at w.first anchored cs) (searches_cost text w.at w.first anchored cs) before after (Ok won) →
+    pub takes-ok : (won : Option Found) (next : Next) → Searches (earliest text w.at w.first anchored cs) (searches_cost text w.at w.first anchored cs) before after (Ok won) →
         Does (taken_turn rules (length text) (place_here t h w) won) t u old new v (Ok next) → Takes the_turn t u old new v before after (Ok next)
     takes-ok won next s done =
         let does = does-turn t u old new w v (Ok next) h has_end anchored won split has at s.found done in
         record { ok = does.ok; grows = does.grows; spends = spends-more _ _ before after (searches-least t h w has_end anchored split has at) s.spends; cause = tt }
 
-    pub takes-err : (won : Option Found) (fault : TableFault) (said : LineFault) → said ≡ of_table fault → Searches (earliest_winner text w.at w.first anchored cs) (searches_cost text w.at w.first anchored cs) before after (Ok won) →
+    pub takes-err : (won : Option Found) (fault : TableFault) (said : LineFault) → said ≡ of_table fault → Searches (earliest text w.at w.first anchored cs) (searches_cost text w.at w.first anchored cs) before after (Ok won) →
         Does (taken_turn rules (length text) (place_here t h w) won) t u old new v (Err fault) → Takes the_turn t u old new v before after (Err said)
     takes-err won fault said e s done =
         let does = does-turn t u old new w v (Err fault) h has_end anchored won split has at s.found done in

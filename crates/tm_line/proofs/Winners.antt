@@ -1,14 +1,16 @@
 -- The earliest of candidates, part by part.
-use Rattle.std.proofs.Common.{◌≡◌, ℕ, ◌+◌, ◌<◌, ◌++◌, Bool, true, false, cond, nat_lt, List, [], ◌∷◌, length, drop, get_or, Some, None, Option, refl, subst, ap, sym, ◌∙◌, arith, add-one, drop-cons}
-use Rattle.std.specs.Prelude.{slice_get, Ok}
+use Rattle.std.proofs.Common.{◌≡◌, ℕ, suc, ◌+◌, ◌++◌, Bool, true, false, cond, nat_lt, List, [], ◌∷◌, Some, None, Option, refl, ap, sym, ◌∙◌, arith, add-one}
+use Rattle.std.specs.Prelude.{option_map, Result, Ok, Err, IfOk}
 use Rattle.std.proofs.lemmas.Bool.Decides.{nat_tests}
-use Rattle.tm_line.specs.Rules.{Rule}
+use Rattle.tm_onig_class.specs.Tree.{Tree}
+use Rattle.tm_onig_search.specs.Outcomes.{Caps}
+use Rattle.tm_onig_scan.specs.Winner as scan
+use Rattle.tm_onig_vm.specs.declared.fault.FindFault.{FindFault}
 use Rattle.tm_line.specs.declared.rules.Found.{Found}
-use Rattle.tm_line.specs.Search.{Candidate, found, earlier, earliest_winner, searches_cost, contributed, listed_candidates}
-use Rattle.tm_line.specs.Searched.{Searches}
-use Rattle.tm_line.proofs.Budgets.{IsPartSpent, more-spent}
+use Rattle.tm_line.specs.Search.{Candidate, patterns_in, started_by, found_as, earliest, searches_cost}
+use Rattle.tm_line.specs.Searched.{Searches, earlier}
 
-pub earlier-none : (a : Option Found) → earlier a None ≡ a
+earlier-none : (a : Option Found) → earlier a None ≡ a
 earlier-none None = refl
 earlier-none (Some a) = refl
 
@@ -26,49 +28,108 @@ earlier_assoc (Some a) (Some b) (Some c) = go (nat_lt b.start a.start) (nat_lt c
     go false false true e f h = absurd (grind (arith, nat_tests))
     go false false false e f h = ap (λ t. cond t (Some c) (Some a)) h ∙ sym (ap (λ t. cond t (Some b) (Some a)) e)
 
+-- a match with the number of its pattern
+abbrev Won : Type 0
+Won = ℕ × Caps
+
+-- the same under another number, and as what is found by a rule
+abbrev more : Won → Won
+more w = (suc w.0, w.1)
+
+abbrev numbered : ℕ → Caps → Won
+numbered n caps = (n, caps)
+
+abbrev by_label : (ℕ → Option ℕ) → Won → Found
+by_label label w = found_as (label w.0) w.1
+
+-- of two matches the one that starts earlier stays so
+renumbered : (a b : Option Won) → option_map more (scan.earlier a b) ≡ scan.earlier (option_map more a) (option_map more b)
+renumbered None b = refl
+renumbered (Some a) None = refl
+renumbered (Some a) (Some b) = go (nat_lt (scan.start_of b.1) (scan.start_of a.1))
+  where
+    go : (t : Bool) → option_map more (cond t (Some b) (Some a)) ≡ cond t (Some (more b)) (Some (more a))
+    go true = refl
+    go false = refl
+
+labelled : (label : ℕ → Option ℕ) (a b : Option Won) → option_map (by_label label) (scan.earlier a b) ≡ earlier (option_map (by_label label) a) (option_map (by_label label) b)
+labelled label None b = refl
+labelled label (Some a) None = refl
+labelled label (Some a) (Some b) = go (nat_lt (scan.start_of b.1) (scan.start_of a.1))
+  where
+    go : (t : Bool) → option_map (by_label label) (cond t (Some b) (Some a)) ≡ cond t (Some (by_label label b)) (Some (by_label label a))
+    go true = refl
+    go false = refl
+
+option_map-map : {A B C : Type 0} (f : A → B) (g : B → C) (o : Option A) → option_map g (option_map f o) ≡ option_map (λ x. g (f x)) o
+option_map-map f g None = refl
+option_map-map f g (Some x) = refl
+
 module _ (text : List ℕ) (at : ℕ) (allow_a allow_g : Bool) where
-  pub earliest_winner-append : (xs ys : List Candidate) → earliest_winner text at allow_a allow_g (xs ++ ys) ≡ earlier (earliest_winner text at allow_a allow_g xs) (earliest_winner text at allow_a allow_g ys)
-  earliest_winner-append [] ys = refl
-  earliest_winner-append (c ∷ cs) ys =
-      ap (earlier (found text at allow_a allow_g c)) (earliest_winner-append cs ys) ∙ sym (earlier_assoc (found text at allow_a allow_g c) (earliest_winner text at allow_a allow_g cs) (earliest_winner text at allow_a allow_g ys))
+  abbrev found : Option Tree → Option Caps
+  found p = scan.found text at allow_a allow_g p
+
+  abbrev winner_from : ℕ → List (Option Tree) → Option Won
+  winner_from n ps = scan.winner_from text at allow_a allow_g n ps
+
+  -- a list that is numbered from one more on
+  winner_from-more : (n : ℕ) (ps : List (Option Tree)) → winner_from (suc n) ps ≡ option_map more (winner_from n ps)
+  winner_from-more n [] = refl
+  winner_from-more n (p ∷ ps) =
+      ap (scan.earlier (option_map (numbered (suc n)) (found p)))
+      (ap (λ k. winner_from k ps) (add-one (suc n)) ∙ winner_from-more (suc n) ps ∙ ap (λ k. option_map more (winner_from k ps)) (sym (add-one n)))
+      ∙ ap (λ o. scan.earlier o (option_map more (winner_from (n + 1) ps))) (sym (option_map-map (numbered n) more (found p)))
+      ∙ sym (renumbered (option_map (numbered n) (found p)) (winner_from (n + 1) ps))
+
+  -- where one candidate is found
+  abbrev found_of : Candidate → Option Found
+  found_of c = option_map (found_as c.rule) (found c.pattern)
+
+  -- the first candidate, and the others
+  earliest-cons : (c : Candidate) (cs : List Candidate) → earliest text at allow_a allow_g (c ∷ cs) ≡ earlier (found_of c) (earliest text at allow_a allow_g cs)
+  earliest-cons c cs =
+      let label = started_by (c ∷ cs) in
+      let ps = patterns_in cs in
+      labelled label (option_map (numbered 0) (found c.pattern)) (winner_from 1 ps)
+      ∙ ap (λ o. earlier o (option_map (by_label label) (winner_from 1 ps))) (option_map-map (numbered 0) (by_label label) (found c.pattern))
+      ∙ ap (earlier (found_of c)) (ap (option_map (by_label label)) (winner_from-more 0 ps) ∙ option_map-map more (by_label label) (winner_from 0 ps))
+
+  pub earliest-append : (xs ys : List Candidate) → earliest text at allow_a allow_g (xs ++ ys) ≡ earlier (earliest text at allow_a allow_g xs) (earliest text at allow_a allow_g ys)
+  earliest-append [] ys = refl
+  earliest-append (c ∷ cs) ys =
+      earliest-cons c (cs ++ ys) ∙ ap (earlier (found_of c)) (earliest-append cs ys)
+      ∙ sym (earlier_assoc (found_of c) (earliest text at allow_a allow_g cs) (earliest text at allow_a allow_g ys))
+      ∙ ap (λ o. earlier o (earliest text at allow_a allow_g ys)) (sym (earliest-cons c cs))
 
   pub searches_cost-append : (xs ys : List Candidate) → searches_cost text at allow_a allow_g (xs ++ ys) ≡ searches_cost text at allow_a allow_g xs + searches_cost text at allow_a allow_g ys
   searches_cost-append [] ys = omega arith
   searches_cost-append (c ∷ cs) ys = let rest = searches_cost-append cs ys in omega (arith, rest)
 
-  -- what is left of a list that was searched up to a place
-  pub record IsSearching (rules : List Rule) (numbers rest : List ℕ) (best first : Option Found) (before now : ℕ) : Type 0 where
-    pub found : earlier first (earliest_winner text at allow_a allow_g (listed_candidates rules rest)) ≡ earlier best (earliest_winner text at allow_a allow_g (listed_candidates rules numbers))
-    pub spent : IsPartSpent before now (searches_cost text at allow_a allow_g (listed_candidates rules rest)) (searches_cost text at allow_a allow_g (listed_candidates rules numbers))
+  -- the one scan, and then the other with what it left
+  pub both-searches : (xs ys : List Candidate) (before mid after : ℕ) (first : Option Found) (result : Result (Option Found) FindFault) →
+      Searches (earliest text at allow_a allow_g xs) (searches_cost text at allow_a allow_g xs) before mid (Ok first) →
+      Searches (earlier first (earliest text at allow_a allow_g ys)) (searches_cost text at allow_a allow_g ys) mid after result →
+      Searches (earliest text at allow_a allow_g (xs ++ ys)) (searches_cost text at allow_a allow_g (xs ++ ys)) before after result
+  both-searches xs ys before mid after first result s t =
+      let sum = searches_cost-append xs ys in
+      let a = s.spends.falls in
+      let b = s.spends.most in
+      let c = t.spends.falls in
+      let d = t.spends.most in
+      record {
+        found = won result t.found;
+        spends = record { falls = omega arith; most = omega (arith, sum) };
+        over = λ is. let over = t.over is in omega (arith, sum);
+      }
+    where
+      won : (r : Result (Option Found) FindFault) → IfOk r (λ found. found ≡ earlier first (earliest text at allow_a allow_g ys)) → IfOk r (λ found. found ≡ earliest text at allow_a allow_g (xs ++ ys))
+      won (Ok found) e = e ∙ ap (λ o. earlier o (earliest text at allow_a allow_g ys)) s.found ∙ sym (earliest-append xs ys)
+      won (Err fault) e = tt
 
-  module _ (rules : List Rule) (numbers : List ℕ) (i : ℕ) (best first : Option Found) (before now next : ℕ) (lt : i < length numbers) (h : IsSearching rules numbers (drop i numbers) best first before now) where
-    abbrev n : ℕ
-    n = get_or numbers i 0
+-- a search that was refused gives nothing
+pub refused-search : (want other : Option Found) (cost before after : ℕ) (fault : FindFault) → Searches want cost before after (Err fault) → Searches other cost before after (Err fault)
+refused-search want other cost before after fault s = record { found = tt; spends = s.spends; over = s.over }
 
-    abbrev one : List Candidate
-    one = contributed n (slice_get rules n)
-
-    abbrev rest : List Candidate
-    rest = listed_candidates rules (drop (i + 1) numbers)
-
-    split : drop i numbers ≡ n ∷ drop (i + 1) numbers
-    split = drop-cons numbers i 0 lt ∙ ap (λ k. n ∷ drop k numbers) (sym (add-one i))
-
-    costs : searches_cost text at allow_a allow_g (listed_candidates rules (drop i numbers)) ≡ searches_cost text at allow_a allow_g one + searches_cost text at allow_a allow_g rest
-    costs = ap (λ l. searches_cost text at allow_a allow_g (listed_candidates rules l)) split ∙ searches_cost-append one rest
-
-    part : IsPartSpent before now (searches_cost text at allow_a allow_g one + searches_cost text at allow_a allow_g rest) (searches_cost text at allow_a allow_g (listed_candidates rules numbers))
-    part = let P : ℕ → Type 0 = λ m. IsPartSpent before now m (searches_cost text at allow_a allow_g (listed_candidates rules numbers)) in subst P costs h.spent
-
-    -- one more of the list is searched
-    pub more-searching : (start new : Option Found) → Searches (earliest_winner text at allow_a allow_g one) (searches_cost text at allow_a allow_g one) now next (Ok start) → new ≡ earlier first start →
-        IsSearching rules numbers (drop (i + 1) numbers) best new before next
-    more-searching start new s e = record {
-      found =
-          ap (λ o. earlier o (earliest_winner text at allow_a allow_g rest)) (e ∙ ap (earlier first) s.found)
-          ∙ earlier_assoc first (earliest_winner text at allow_a allow_g one) (earliest_winner text at allow_a allow_g rest)
-          ∙ ap (earlier first) (sym (earliest_winner-append one rest))
-          ∙ ap (λ l. earlier first (earliest_winner text at allow_a allow_g (listed_candidates rules l))) (sym split)
-          ∙ h.found;
-      spent = more-spent before now next _ _ _ part s.spends;
-    }
+-- the earlier of what was found before and of what is found
+pub found-earlier : (before got want result : Option Found) (cost budget left : ℕ) → Searches want cost budget left (Ok got) → result ≡ earlier before got → Searches (earlier before want) cost budget left (Ok result)
+found-earlier before got want result cost budget left s e = record { found = e ∙ ap (earlier before) s.found; spends = s.spends; over = λ is. absurd cc }

@@ -17,8 +17,8 @@ letters a b = Cat (More (Char a false) (More (Char b false) NoTrees))
 abbrev pub example : Setting
 example = setting_of (codes "source.t") (
     Only (1 ∷ 2 ∷ [])
-    ∷ Match (InSet ((48, 57) ∷ []) false) (Some (codes "string.t"))
-    ∷ BeginEnd (letters 47 42) (letters 42 47) (Some (codes "comment.t")) (1 ∷ [])
+    ∷ Match (Some (InSet ((48, 57) ∷ []) false)) (Some (codes "string.t"))
+    ∷ BeginEnd (Some (letters 47 42)) (Some (letters 42 47)) (Some (codes "comment.t")) (1 ∷ [])
     ∷ [])
 
 -- the line `1 /*2`, its text with the line break, and the candidates at its start

@@ -5,7 +5,7 @@ use Rattle.tm_line_run.specs.LineRun as line
 use Rattle.tm_line_run.specs.LineRun.{Winner, Nothing, Ends, Begins, Matches, Grammar}
 use Rattle.tm_line.specs.Rules.{Rule, Match, BeginEnd, Only}
 use Rattle.tm_line.specs.declared.rules.Found.{Found}
-use Rattle.tm_line.specs.Search.{earliest_winner, searches_cost, flattened_candidates}
+use Rattle.tm_line.specs.Search.{earliest, searches_cost, flattened_candidates}
 
 abbrev pub match_of : Found → line.Match
 match_of f = record { start = f.start; end = f.end }
@@ -38,7 +38,7 @@ rules_grammar rules text = record {
   rules = length rules;
   end = length text;
   winner = λ frame has_end at first anchored.
-      of_found rules (earliest_winner text at first anchored (flattened_candidates rules has_end frame.rule));
+      of_found rules (earliest text at first anchored (flattened_candidates rules has_end frame.rule));
   cost = λ frame has_end at first anchored. searches_cost text at first anchored (flattened_candidates rules has_end frame.rule);
   names = λ rule m. names_of (slice_get rules rule);
 }

@@ -1,10 +1,10 @@
 pub mod Example
 pub mod Grammar
+pub mod Insides
 pub mod Ran
 pub mod Rules
 pub mod Search
 pub mod Searched
-pub mod SearchLaws
 pub mod Setting
 pub mod Tokenizing
 pub mod Turned

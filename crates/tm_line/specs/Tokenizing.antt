@@ -16,10 +16,14 @@ pub record Spot : Type 0 where
   pub anchor : Option ℕ
   pub first : Bool
 
+-- the place of an open rule, and those around it from the nearest outward
+abbrev pub placed : FrameData → List FrameData → Spot → Place
+placed top below w = record { top = top; below = below; at = w.at; entries = w.entries; anchor = w.anchor; first = w.first }
+
 -- the place of open rules, the innermost first (no line has none)
 abbrev pub place_of : List FrameData → Spot → Place
-place_of [] w = record { top = opened 0 [] false; below = []; at = w.at; entries = w.entries; anchor = w.anchor; first = w.first }
-place_of (f ∷ fs) w = record { top = f; below = fs; at = w.at; entries = w.entries; anchor = w.anchor; first = w.first }
+place_of [] w = placed (opened 0 [] false) [] w
+place_of (f ∷ fs) w = placed f fs w
 
 -- the anchor is the line's start where the innermost rule began with the end of a line
 abbrev pub start_anchor : List FrameData → Option ℕ

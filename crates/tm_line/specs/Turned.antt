@@ -19,7 +19,7 @@ use Rattle.tm_line.specs.declared.rules.Found.{Found}
 use Rattle.tm_line_run.specs.LineRun as line
 use Rattle.tm_line.specs.declared.way.Entry as code
 use Rattle.tm_line.specs.declared.way.Way.{Way}
-use Rattle.tm_line.specs.Tokenizing.{Spot}
+use Rattle.tm_line.specs.Tokenizing.{Spot, placed}
 use Rattle.tm_line.specs.declared.turn.Here.{Here}
 use Rattle.tm_line.specs.declared.turn.Next.{Next}
 use Rattle.tm_line.specs.declared.turn.Next.TheVariants as next
@@ -35,7 +35,7 @@ pub record IsHere (t : Tables) (h : Here) : Type 0 where
 
 -- the place that it stands for
 abbrev pub place_here : Tables → Here → Spot → Place
-place_here t h w = record { top = frame_at t h.frame; below = reverse (state_at t h.below); at = w.at; entries = w.entries; anchor = w.anchor; first = w.first }
+place_here t h w = placed (frame_at t h.frame) (reverse (state_at t h.below)) w
 
 -- the rest of a place
 abbrev pub spot_in : Place → Spot

@@ -23,10 +23,10 @@ ghost use Rattle.tm_line_run.specs.Laws.{IsLineRun};
 ghost use Rattle.tm_line.specs.Example.{candidates, comment_from, example, in_comment, in_root, line, plain_from, rule_at, string_from, text};
 ghost use Rattle.tm_line.specs.Grammar.{rules_grammar};
 ghost use Rattle.tm_line.specs.Rules.{Rule};
-ghost use Rattle.tm_line.specs.Search.{Candidate, earliest_winner, searches_cost};
-ghost use Rattle.tm_line.specs.SearchLaws.{IsEarliest};
+ghost use Rattle.tm_line.specs.Search.{earliest, searches_cost};
 ghost use Rattle.tm_line.specs.Tokenizing.{rules_cost, rules_tokenized};
 
+mod inside;
 pub mod rules;
 mod run;
 mod search;
@@ -42,16 +42,11 @@ pub fn one_outcome()
     ensures { (rules : List Rule) (text : List ℕ) → IsLineRun (rules_grammar rules text) }
 {}
 
-/// The winner is found earliest of its candidates, and is the first in the list of those found there.
-pub fn earliest_candidate()
-    ensures { (text : List ℕ) (at : ℕ) (allow_a allow_g : Bool) (cs : List Candidate) → IsEarliest text at allow_a allow_g cs }
-{}
-
 /// The first two turns of the table at the head of this module, computed by the definitions.
 pub fn worked_searches()
-    ensures first { earliest_winner text 0 true false candidates ≡ rule_at 1 0 1 }
+    ensures first { earliest text 0 true false candidates ≡ rule_at 1 0 1 }
     ensures first_cost { searches_cost text 0 true false candidates ≡ 10 }
-    ensures next { earliest_winner text 1 false false candidates ≡ rule_at 2 2 4 }
+    ensures next { earliest text 1 false false candidates ≡ rule_at 2 2 4 }
     ensures next_cost { searches_cost text 1 false false candidates ≡ 11 }
 {}
 

@@ -8,7 +8,7 @@ ghost use Rattle.tm_line.specs.Rules.{rules_data};
 ghost use Rattle.tm_line.specs.Tokenizing.{place_of};
 ghost use Rattle.tm_line.specs.Turned.{spot_of};
 
-use crate::rules::Rule;
+use crate::rules::Rules;
 use crate::turn::{Next, turn};
 use crate::way::Way;
 use std::alloc::Global;
@@ -25,7 +25,7 @@ pub fn run<S: States>(
     alloc: Global,
     table: &mut S,
     pieces: &mut Vec<Painted>,
-    rules: &[Rule],
+    rules: &Rules,
     text: &Line,
     start: StateId,
     way: &mut Way,

@@ -1,22 +1,22 @@
 //! The search of the earliest candidate.
 //!
-//! Candidates are searched one after the other, each from the same position to the text's end, and
-//! what one search leaves of the budget is the budget of the next. A line with many candidates and
-//! many turns so searches each of them at each turn.
-ghost use Rattle.std.specs.Prelude.{◌≡◌, ◌≤◌, ◌<◌, ◌^◌, length, option_map, slice_get, Some, None};
-ghost use Rattle.std.specs.Option.{option_copied};
-ghost use Rattle.tm_onig_class.specs.Tree.{tree_of};
-ghost use Rattle.tm_line.specs.Rules.{rule_data, rules_data};
-ghost use Rattle.tm_line.specs.Search.{candidate_of, span_found, whole_match, found, found_cost, earlier, earliest_winner, searches_cost, contributed, listed_candidates, end_candidate, flattened_candidates};
-ghost use Rattle.tm_line.specs.Searched.{Searches};
+//! The open rule's own end is one scan and the starts of the rules in it are another, each from the same
+//! position to the text's end, and what the one leaves of the budget is the budget of the other. A line
+//! with many candidates and many turns so searches each of them at each turn.
+ghost use Rattle.std.specs.Prelude.{◌≡◌, ◌≤◌, ◌<◌, ◌^◌, ℕ, List, Option, [], length, slice_get};
+ghost use Rattle.tm_onig_scan.specs.Winner.{start_of, trees_of};
+ghost use Rattle.tm_line.specs.Insides.{IsInsideOf};
+ghost use Rattle.tm_line.specs.Rules.{Rule, rules_data};
+ghost use Rattle.tm_line.specs.Search.{Candidate, counted, earliest, end_of, ends_in, flattened_candidates, found_as, patterns_in, searches_cost, started_by, starts_in};
+ghost use Rattle.tm_line.specs.Searched.{Searches, earlier};
 
-use crate::rules::{Found, Rule};
+use crate::inside::Inside;
+use crate::rules::{Found, Rules};
 use std::alloc::Global;
 use tm_defs::caps::Caps;
-use tm_defs::rules::Numbers;
 use tm_defs::texts::Line;
+use tm_onig_scan::Scanner;
 use tm_onig_vm::fault::FindFault;
-use tm_onig_vm::program::{Prog, find};
 
 /// Which of the places `\A` and `\G` a search allows.
 #[derive(Clone, Copy, Debug, PartialEq, Eq)]
@@ -26,34 +26,33 @@ pub struct Anchors {
 }
 
 /// Start and end of the whole match.
-fn whole(caps: &Caps) -> Option<(u32, u32)>
-    ensures { result ≡ whole_match (Some caps.now) }
+fn whole(caps: &Caps) -> (u32, u32)
+    ensures start { result.0 ≡ start_of caps.now }
+    ensures end { result.1 ≡ end_of caps.now }
 {
-    match caps.as_slice().first() {
-        Some(group) => *group,
-        None => None,
+    match caps.as_slice() {
+        [Some(group), ..] => *group,
+        _ => (0, 0),
     }
 }
 
 /// What the groups of a match say of its candidate.
-fn found_in(candidate: Option<u32>, caps: &Caps) -> Option<Found>
-    ensures { result ≡ span_found candidate (whole_match (Some caps.now)) }
+fn found_as(candidate: Option<u32>, caps: &Caps) -> Found
+    ensures { result ≡ found_as candidate caps.now }
 {
-    match whole(caps) {
-        Some((start, end)) => Some(Found {
-            candidate,
-            start: start as usize,
-            end: end as usize,
-        }),
-        None => None,
+    let (start, end) = whole(caps);
+    Found {
+        candidate,
+        start: start as usize,
+        end: end as usize,
     }
 }
 
-/// Where the pattern of a candidate is found.
-fn found_from(
+/// The earliest of the candidates that a scanner has the patterns of, and these numbers the rules.
+fn earliest_of(
     alloc: Global,
-    candidate: Option<u32>,
-    pattern: &Prog,
+    scanner: &Scanner,
+    numbers: &[u32],
     text: &Line,
     at: usize,
     anchors: Anchors,
@@ -61,19 +60,23 @@ fn found_from(
 ) -> Result<Option<Found>, FindFault>
     requires within { at ≤ length text.now }
     requires small { length text.now < 2 ^ 31 }
-    ensures { let c = candidate_of candidate (tree_of pattern.now) in
-        Searches (found text.now at anchors.allow_a anchors.allow_g c) (found_cost text.now at anchors.allow_a anchors.allow_g c) budget.old budget.new result }
+    ensures { (cs : List Candidate) → trees_of scanner.now ≡ patterns_in cs →
+        ((n : ℕ) → started_by cs n ≡ slice_get numbers.now n) →
+        Searches (earliest text.now at anchors.allow_a anchors.allow_g cs) (searches_cost text.now at anchors.allow_a anchors.allow_g cs)
+        budget.old budget.new result }
 {
-    match find(
+    match scanner.next(
         alloc,
-        pattern,
         text,
         at as u32,
         anchors.allow_a,
         anchors.allow_g,
         budget,
     ) {
-        Ok(Some(caps)) => Ok(found_in(candidate, &caps)),
+        Ok(Some((number, caps))) => {
+            let rule = numbers.get(number as usize).copied();
+            Ok(Some(found_as(rule, &caps)))
+        }
         Ok(None) => Ok(None),
         Err(fault) => Err(fault),
     }
@@ -90,87 +93,51 @@ fn earlier_of(a: Option<Found>, b: Option<Found>) -> Option<Found>
     }
 }
 
-/// Where the rule of a number starts.
-fn start_of(
+/// The earliest end, where it counts.
+fn earliest_end(
     alloc: Global,
-    rules: &[Rule],
-    text: &Line,
-    at: usize,
-    anchors: Anchors,
-    n: u32,
-    budget: &mut u64,
-) -> Result<Option<Found>, FindFault>
-    requires within { at ≤ length text.now }
-    requires small { length text.now < 2 ^ 31 }
-    ensures { let cs = contributed n (slice_get (rules_data rules.now) n) in
-        Searches (earliest_winner text.now at anchors.allow_a anchors.allow_g cs) (searches_cost text.now at anchors.allow_a anchors.allow_g cs)
-        budget.old budget.new result }
-{
-    match rule_at(rules, n) {
-        Some(Rule::Match { pattern, name: _ }) => {
-            found_from(alloc, Some(n), pattern, text, at, anchors, budget)
-        }
-        Some(
-            Rule::BeginEnd {
-                begin,
-                end: _,
-                name: _,
-                patterns: _,
-            },
-        ) => found_from(alloc, Some(n), begin, text, at, anchors, budget),
-        Some(Rule::Only { patterns: _ }) => Ok(None),
-        None => Ok(None),
-    }
-}
-
-/// The earliest of what was found before and of the starts of these rules.
-fn earliest_start(
-    alloc: Global,
-    rules: &[Rule],
-    text: &Line,
-    at: usize,
-    anchors: Anchors,
-    best: Option<Found>,
-    patterns: &Numbers,
-    budget: &mut u64,
-) -> Result<Option<Found>, FindFault>
-    requires within { at ≤ length text.now }
-    requires small { length text.now < 2 ^ 31 }
-    ensures { let cs = listed_candidates (rules_data rules.now) patterns.now in
-        Searches (earlier best (earliest_winner text.now at anchors.allow_a anchors.allow_g cs)) (searches_cost text.now at anchors.allow_a anchors.allow_g cs)
-        budget.old budget.new result }
-{
-    let mut first = best;
-    let numbers = patterns.as_slice();
-    for n in numbers {
-        match start_of(alloc, rules, text, at, anchors, *n, budget) {
-            Ok(start) => first = earlier_of(first, start),
-            Err(fault) => return Err(fault),
-        }
-    }
-    Ok(first)
-}
-
-/// The end of the open rule, where it counts.
-fn end_of(
-    alloc: Global,
+    ends: &Scanner,
     text: &Line,
     at: usize,
     anchors: Anchors,
     has_end: bool,
-    end: &Prog,
     budget: &mut u64,
 ) -> Result<Option<Found>, FindFault>
     requires within { at ≤ length text.now }
     requires small { length text.now < 2 ^ 31 }
-    ensures { let cs = end_candidate has_end (tree_of end.now) in
-        Searches (earliest_winner text.now at anchors.allow_a anchors.allow_g cs) (searches_cost text.now at anchors.allow_a anchors.allow_g cs)
+    ensures { (rule : Option Rule) → trees_of ends.now ≡ patterns_in (ends_in rule) →
+        let cs = counted has_end (ends_in rule) in
+        Searches (earliest text.now at anchors.allow_a anchors.allow_g cs) (searches_cost text.now at anchors.allow_a anchors.allow_g cs)
         budget.old budget.new result }
 {
     if has_end {
-        found_from(alloc, None, end, text, at, anchors, budget)
+        earliest_of(alloc, ends, &[], text, at, anchors, budget)
     } else {
         Ok(None)
+    }
+}
+
+/// The earlier of the end and of the earliest start, the end on a tie.
+fn earliest_with(
+    alloc: Global,
+    inside: &Inside,
+    end: Option<Found>,
+    text: &Line,
+    at: usize,
+    anchors: Anchors,
+    budget: &mut u64,
+) -> Result<Option<Found>, FindFault>
+    requires within { at ≤ length text.now }
+    requires small { length text.now < 2 ^ 31 }
+    ensures { (rules : List Rule) (rule : Option Rule) → IsInsideOf rules rule inside.now →
+        let cs = starts_in rules rule in
+        Searches (earlier end (earliest text.now at anchors.allow_a anchors.allow_g cs)) (searches_cost text.now at anchors.allow_a anchors.allow_g cs)
+        budget.old budget.new result }
+{
+    let numbers = inside.numbers.as_slice();
+    match earliest_of(alloc, &inside.starts, numbers, text, at, anchors, budget) {
+        Ok(start) => Ok(earlier_of(end, start)),
+        Err(fault) => Err(fault),
     }
 }
 
@@ -179,7 +146,7 @@ fn end_of(
 /// only where the searches cost more than the budget.
 pub fn winner(
     alloc: Global,
-    rules: &[Rule],
+    rules: &Rules,
     text: &Line,
     at: usize,
     anchors: Anchors,
@@ -190,43 +157,14 @@ pub fn winner(
     requires within { at ≤ length text.now }
     requires small { length text.now < 2 ^ 31 }
     ensures { let cs = flattened_candidates (rules_data rules.now) has_end rule in
-        Searches (earliest_winner text.now at anchors.allow_a anchors.allow_g cs) (searches_cost text.now at anchors.allow_a anchors.allow_g cs)
+        Searches (earliest text.now at anchors.allow_a anchors.allow_g cs) (searches_cost text.now at anchors.allow_a anchors.allow_g cs)
         budget.old budget.new result }
 {
-    match rule_at(rules, rule) {
-        Some(
-            Rule::BeginEnd {
-                begin: _,
-                end,
-                name: _,
-                patterns,
-            },
-        ) => match end_of(alloc, text, at, anchors, has_end, end, budget) {
-            Ok(best) => earliest_start(alloc, rules, text, at, anchors, best, patterns, budget),
-            Err(fault) => Err(fault),
-        },
-        Some(Rule::Only { patterns }) => {
-            earliest_start(alloc, rules, text, at, anchors, None, patterns, budget)
-        }
-        Some(
-            Rule::Match {
-                pattern: _,
-                name: _,
-            },
-        ) => Ok(None),
-        None => Ok(None),
+    let Some(inside) = rules.inside(rule) else {
+        return Ok(None);
+    };
+    match earliest_end(alloc, &inside.ends, text, at, anchors, has_end, budget) {
+        Ok(end) => earliest_with(alloc, inside, end, text, at, anchors, budget),
+        Err(fault) => Err(fault),
     }
-}
-
-/// The rule of a number.
-pub fn rule_at(rules: &[Rule], n: u32) -> Option<&Rule>
-    ensures { option_map rule_data (option_copied result) ≡ slice_get (rules_data rules.now) n }
-{
-    listed_rule(rules, n)
-}
-
-fn listed_rule(rules: &[Rule], n: u32) -> Option<&Rule>
-    ensures { option_copied result ≡ slice_get rules.now n }
-{
-    rules.get(n as usize)
 }

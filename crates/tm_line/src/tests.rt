@@ -15,8 +15,6 @@ use tm_defs::steps::Steps;
 use tm_defs::tables::{States, TableFault};
 use tm_defs::texts::{Line, Name};
 use tm_defs::tokenizer::{LineFault, LineOut, LineTok};
-use tm_onig_class::patterns::Pattern;
-use tm_onig_vm::program::compile;
 
 fn is_shared<T: Send + Sync>() {}
 
@@ -109,12 +107,8 @@ fn text(alloc: Global, chars: &str) -> Result<Vec<char>, Fail> {
 
 /// A list whose only rule matches `b` without a name.
 fn bare_rules(alloc: Global) -> Result<Vec<Rule>, Fail> {
-    let letter = Pattern::Char {
-        c: 'b',
-        fold: false,
-    };
     let bare = Rule::Match {
-        pattern: compile(alloc, &letter)?,
+        pattern: Name::new(text(alloc, "b")?),
         name: None,
     };
     let root = Rule::Only {
@@ -148,7 +142,7 @@ fn two_lines<L: Ledger>(rt: &impl Abort, alloc: Global, blank: Blank) -> Result<
         scope: scope.copy()?,
     };
     let mut steps: Steps<L> = Steps::new(blank);
-    let setting = Setting::build(alloc, scope, bare_rules(alloc)?);
+    let setting = Setting::build(alloc, scope, bare_rules(alloc)?)?;
     let line = Line::new(vec![in alloc; 'a', 'b', 'b', 'a']?);
     let out = tokenized(&setting, &mut table, &line, 8, &mut steps)?;
     assert_eq!(rt; out.end, StateId(1));

@@ -10,7 +10,7 @@ ghost use Rattle.tm_line.specs.Setting.{setting_of, setting_data};
 ghost use Rattle.tm_line.specs.Tokenizing.{start_spot, start_state, start_made, top_contents};
 ghost use Rattle.tm_line.specs.Turned.{spot_of};
 
-use crate::rules::Rule;
+use crate::rules::{Rule, Rules};
 use crate::run::run;
 use crate::tables::{longer_list, push_frame};
 use crate::turn::table_fault;
@@ -19,6 +19,7 @@ use std::alloc::{AllocError, Global};
 use std::marker::Model;
 use std::sync::ledger::Ledger;
 use tm_defs::frames::{ScopeList, StateId};
+use tm_defs::memory::OutOfMemory;
 use tm_defs::steps::Steps;
 use tm_defs::tables::{States, TableFault};
 use tm_defs::texts::{Line, Name};
@@ -30,33 +31,30 @@ use tm_meta::metadata::{base_metadata, metadata};
 #[derive(Drop)]
 pub struct Setting {
     scope: Name,
-    rules: Vec<Rule>,
+    rules: Rules,
     alloc: Global,
 }
 
 impl Model for Setting {
-    ghost use Rattle.std.specs.Coded.{codes};
-    ghost use Rattle.tm_onig_class.specs.contracts.patterns.Pattern as pattern;
     ghost use Rattle.tm_line.specs.Setting.{BuiltSetting};
 
     ghost Value = { BuiltSetting };
 
-    ghost coded = { Prim.hlevel (codes, pattern.the_row.coded) };
-
-    ghost view = { λ a. record { scope = a.scope; rules = a.rules.items } };
+    ghost view = { λ a. record { scope = a.scope; rules = a.rules } };
 }
 
 impl Setting {
-    /// A setting of these rules. `scope` is the grammar's scope, which every token has; each line takes
-    /// its buffers from `alloc`.
-    pub fn build(alloc: Global, scope: Name, rules: Vec<Rule>) -> Self
-        ensures { setting_data result ≡ setting_of scope (rules_data rules.items) }
+    /// A setting of these rules, whose patterns are read once and for all. `scope` is the grammar's scope,
+    /// which every token has; each line takes its buffers from `alloc`.
+    pub fn build(alloc: Global, scope: Name, rules: Vec<Rule>) -> Result<Self, OutOfMemory>
+        ensures { IfOk result (λ setting. setting_data setting ≡ setting_of scope (rules_data rules.items)) }
     {
-        Setting {
+        let rules = Rules::build(alloc, rules)?;
+        Ok(Setting {
             scope,
             rules,
             alloc,
-        }
+        })
     }
 }
 
@@ -153,7 +151,7 @@ fn tokenized_line<S: States>(
     alloc: Global,
     table: &mut S,
     scope: &Name,
-    rules: &[Rule],
+    rules: &Rules,
     start: StateId,
     line: &Line,
     budget: u64,
@@ -216,7 +214,7 @@ impl LineTok for Setting {
             self.alloc,
             table,
             &self.scope,
-            self.rules.as_slice(),
+            &self.rules,
             start,
             line,
             budget,

@@ -15,8 +15,8 @@ ghost use Rattle.tm_line.specs.Rules.{rules_data};
 ghost use Rattle.tm_line.specs.Tokenizing.{Spot, place_of};
 ghost use Rattle.tm_line.specs.Turned.{Does, GoesOnAt, IsHere, StopsAt, Takes, entered_spot, of_search, of_table, place_here, spot_of, taken_turn, turn_of};
 
-use crate::rules::{Found, Rule};
-use crate::search::{Anchors, rule_at, winner};
+use crate::rules::{Found, Rule, Rules};
+use crate::search::{Anchors, winner};
 use crate::tables::{named_list, push_frame};
 use crate::way::{
     Way, advances, enters, goes_on, is_anchored, is_stuck_begin, is_stuck_end, leaves,
@@ -294,7 +294,7 @@ fn begins<S: States>(
 fn starts<S: States>(
     table: &mut S,
     pieces: &mut Vec<Painted>,
-    rules: &[Rule],
+    rules: &Rules,
     here: Here,
     way: &mut Way,
     found: Found,
@@ -306,7 +306,7 @@ fn starts<S: States>(
         Does (turn_of len p found n (slice_get (rules_data rules.now) n))
         (S.tables table.old) (S.tables table.new) pieces.old.items pieces.new.items (spot_of way.new) result }
 {
-    match rule_at(rules, n) {
+    match rules.rule(n) {
         Some(Rule::Match { pattern: _, name }) => {
             matches(table, pieces, here, way, found, name, len)
         }
@@ -356,7 +356,7 @@ fn search_fault(fault: FindFault) -> LineFault
 fn taken<S: States>(
     table: &mut S,
     pieces: &mut Vec<Painted>,
-    rules: &[Rule],
+    rules: &Rules,
     here: Here,
     way: &mut Way,
     winner: Option<Found>,
@@ -382,7 +382,7 @@ pub fn turn<S: States>(
     alloc: Global,
     table: &mut S,
     pieces: &mut Vec<Painted>,
-    rules: &[Rule],
+    rules: &Rules,
     text: &Line,
     state: StateId,
     way: &mut Way,
