@@ -6,7 +6,8 @@ of the times:
 
 - `replay` of one settle and one show over 10,000 and 20,000 lines, by a grammar of five patterns;
 - `scan` of 100,000 and 200,000 short lines by the ini grammar of examples/: a text file of the form that is
-  built has at most 1,000,000 bytes, so a line has four characters at most.
+  built has at most 1,000,000 bytes, so a line has four characters at most;
+- `scan` of 50,000 and 100,000 lines of nine characters at most by a grammar of forty patterns.
 
 Peak memory is that of the program's process, as the system counts it.
 """
@@ -32,6 +33,26 @@ FIVE_LINES = ["let a be 12", "if \"x y\" then b", "/* a note", "goes on */ else 
               "plain words here", ""]
 
 INI_LINES = ["; ab", "[ab]", "a=12", "b=\"x", "c= 1", "", "#"]
+
+
+WORDS = ["as", "do", "for", "if", "in", "let", "be", "new", "of", "or", "try", "use", "var", "with", "and", "not",
+         "case", "else", "enum", "from", "goto", "loop", "move", "next", "pub", "self", "then", "this", "type", "void"]
+
+FORTY = {"scopeName": "source.t", "patterns": [
+    {"begin": "/\\*", "end": "\\*/", "name": "comment.block.t"},
+    {"match": "//.*", "name": "comment.line.t"},
+    {"begin": "\"", "end": "\"|$", "name": "string.t", "patterns": [{"match": "\\\\.", "name": "constant.t"}]},
+    {"match": "'(?:\\\\.|[^'])'", "name": "string.t"},
+    {"match": "\\b0x\\h+\\b", "name": "constant.t"},
+    {"match": "\\b\\d+(?:\\.\\d+)?\\b", "name": "constant.t"},
+    {"match": "\\b\\w+(?=\\()", "name": "entity.t"},
+    {"match": "(?<=\\.)\\w+", "name": "variable.t"},
+    {"match": "\\b[A-Z]\\w*", "name": "support.t"},
+    *({"match": f"\\b{word}\\b", "name": "keyword.t"} for word in WORDS),
+    {"match": "[-+*/=<>]+", "name": "operator.t"},
+]}
+
+FORTY_LINES = ["let a = 1", "if f(x) :", "a.b = 0x1", "/* b */ c", "x // note", "\"a\\n\" of", "T new", ""]
 
 
 def written(folder, name, data):
@@ -86,8 +107,16 @@ def main():
             text = written(folder, f"ini_{size}.txt", text_of(INI_LINES, size))
             return ["scan", ini_settings, text]
 
+        forty = written(folder, "forty.json", json.dumps(FORTY))
+        forty_settings = written(folder, "forty_settings.json", json.dumps({"settings": [{"grammar": forty}]}))
+
+        def scan_forty(size):
+            text = written(folder, f"forty_{size}.txt", text_of(FORTY_LINES, size))
+            return ["scan", forty_settings, text]
+
         table("replay, five patterns", (10_000, 20_000), replay, runs)
         table("scan, ini grammar", (100_000, 200_000), scan, runs)
+        table("scan, forty patterns", (50_000, 100_000), scan_forty, runs)
 
 
 if __name__ == "__main__":

@@ -34,21 +34,9 @@ const STUCK: [(&str, &str, &str); 20] = [
         "let x let",
         "0c 3o",
     ),
-    (
-        r#"[{"match":"a*","name":"comment.t"}]"#,
-        "aab",
-        "0c 2o",
-    ),
-    (
-        r#"[{"match":"a*","name":"comment.t"}]"#,
-        "baa",
-        "0o",
-    ),
-    (
-        r#"[{"match":"a|","name":"comment.t"}]"#,
-        "aba",
-        "0c 1o",
-    ),
+    (r#"[{"match":"a*","name":"comment.t"}]"#, "aab", "0c 2o"),
+    (r#"[{"match":"a*","name":"comment.t"}]"#, "baa", "0o"),
+    (r#"[{"match":"a|","name":"comment.t"}]"#, "aba", "0c 1o"),
     (
         r#"[{"match":"a","name":"comment.t"},{"match":"(?=a)"}]"#,
         "aa",
@@ -168,11 +156,7 @@ const ANCHORS: [(&str, &str, &str); 19] = [
         "a\nbb\nb",
         "0s|0c 1s|0c",
     ),
-    (
-        r#"[{"match":"\\Ga","name":"comment.t"}]"#,
-        "aa\na",
-        "0o|0o",
-    ),
+    (r#"[{"match":"\\Ga","name":"comment.t"}]"#, "aa\na", "0o|0o"),
     // Behind the end of a rule it matches where it did before that rule.
     (
         r#"[{"begin":"<","end":">","name":"string.t","patterns":[{"begin":"\\(","end":"\\)"},{"match":"\\Ga","name":"comment.t"}]}]"#,
@@ -336,11 +320,8 @@ fn tokens_of<L: Ledger>(
     requires parts { blank.parts ≡ L.parts }
     requires some { 0 < blank.parts }
 {
-    let Ok(setting) = Setting::build(
-        alloc,
-        name_of(alloc, "source.t")?,
-        rules_of(alloc, opened)?,
-    ) else {
+    let Ok(setting) = Setting::build(alloc, name_of(alloc, "source.t")?, rules_of(alloc, opened)?)
+    else {
         return Ok(String::from_str(alloc, "no setting")?);
     };
     let mut table = Numbering::new(alloc, 100);
@@ -377,10 +358,18 @@ fn rules_inside_themselves(rt: HostRuntime) -> Result<(), Fail> {
         (&[BEFORE_B], "abx|zzz", " | 0o 1c | 0c 2o"),
         // and so where the rule around is of another line
         (&[BEFORE_B], "b|b|zzz", " | 0c | 0c | 0c 2o"),
-        (&[("\\(", "\\)", "comment.t", &[1])], "(()())x|((|)))", " | 0c 6o | 0c | 0c 2o"),
+        (
+            &[("\\(", "\\)", "comment.t", &[1])],
+            "(()())x|((|)))",
+            " | 0c 6o | 0c | 0c 2o",
+        ),
     ];
     for (opened, lines, tokens) in rows {
-        assert_eq!(rt; tokens_of::<Brand>(alloc, opened, lines, Blank::new(1))?.as_str(), tokens, "{lines}");
+        assert_eq!(rt;
+            tokens_of::<Brand>(alloc, opened, lines, Blank::new(1))?.as_str(),
+            tokens,
+            "{lines}"
+        );
     }
     Ok(())
 }

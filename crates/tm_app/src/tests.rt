@@ -235,7 +235,7 @@ fn other_forms_are_refused(rt: HostRuntime) -> Result<(), Fail> {
         (
             [
                 SETTINGS,
-                r#"{"scopeName":"a","patterns":[{"match":"\\Ga"}]}"#,
+                r#"{"scopeName":"a","patterns":[{"begin":"a","while":"b"}]}"#,
                 "x",
                 "",
             ],

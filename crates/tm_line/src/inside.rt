@@ -88,7 +88,10 @@ fn inside_of(alloc: Global, rules: &[Rule], rule: &Rule) -> Result<Inside, OutOf
     ensures { IfOk result (λ inside. IsInside (rules_data rules.now) (rule_data rule.now) inside) }
 {
     match rule {
-        Rule::Match { pattern: _, name: _ } => inside_with(alloc, rules, &[], &[]),
+        Rule::Match {
+            pattern: _,
+            name: _,
+        } => inside_with(alloc, rules, &[], &[]),
         Rule::BeginEnd {
             begin: _,
             end,

@@ -6,4 +6,4 @@ use Rattle.tm_forms.proofs.patterns.text_of.Goals as goal
 
 pub returns : goal.returns
 unfolding pattern_of
-returns c = ap (option_map parsed) (c.filled.ensures ∙ ap not_empty c.in_ok.ensures)
+returns c = ap (option_map parsed) (c.filled.ensures ∙ ap not_empty c.in_ok-name_of.ensures)
