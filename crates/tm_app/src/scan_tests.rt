@@ -158,8 +158,8 @@ const ROWS: [(&str, &str, &str); 33] = [
     ),
 ];
 
-/// The same of patterns of every form.
-const FORMS: [(&str, &str, &str); 9] = [
+/// The same of patterns of every form, and of names of what is inside a rule.
+const FORMS: [(&str, &str, &str); 14] = [
     (
         r#"[{"match":"(?i)let","name":"string.t"}]"#,
         "LET lEt x",
@@ -189,6 +189,33 @@ const FORMS: [(&str, &str, &str); 9] = [
         r#"[{"match":"\\x41(?<n>b)\\k<n>","name":"string.t"}]"#,
         "abAbb",
         "0o 2s",
+    ),
+    // A content name is for what is between begin and end.
+    (
+        r#"[{"begin":"\\(","end":"\\)","name":"string.t","contentName":"comment.t"}]"#,
+        "a(b)c",
+        "0o 1s 2c 3s 4o",
+    ),
+    (
+        r#"[{"begin":"\\(","end":"\\)","contentName":"comment.t"}]"#,
+        "a(b)c",
+        "0o 2c 3o",
+    ),
+    (
+        r#"[{"begin":"\\(","end":"\\)","name":"string.t","contentName":"comment.t"}]"#,
+        "(a\n\nb)",
+        "0s 1c|0c|0c 1s",
+    ),
+    (
+        r#"[{"begin":"\\(","end":"\\)","contentName":"comment.t","patterns":[{"match":"b","name":"string.t"}]}]"#,
+        "(ab)",
+        "0o 1c 2s 3o",
+    ),
+    // At an end that would come again without end its rule has the scopes of its begin inside too.
+    (
+        r#"[{"begin":"(?=a)","end":"(?=a)","name":"string.t","contentName":"comment.t"}]"#,
+        "ab\ncd",
+        "0s|0s",
     ),
     // What is no pattern matches nowhere.
     (

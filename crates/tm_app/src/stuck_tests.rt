@@ -250,6 +250,9 @@ const OUTER: Opened = ("(?=a)", "z", "comment.t", &[2]);
 
 const INNER: Opened = ("(?=a)", "y", "string.t", &[1]);
 
+/// Opens at a parenthesis, and lists itself.
+const BRACKET: Opened = ("\\(", "\\)", "comment.t", &[1]);
+
 fn name_of(alloc: Global, text: &str) -> Result<Name, Fail> {
     Ok(Name::new(text.chars().collect(alloc)?))
 }
@@ -271,6 +274,7 @@ fn rules_of(alloc: Global, opened: &[Opened]) -> Result<Vec<Rule>, Fail> {
             begin: name_of(alloc, begin)?,
             end: name_of(alloc, end)?,
             name: Some(name_of(alloc, name)?),
+            content_name: None,
             patterns: numbers_of(alloc, inside)?,
         })?;
     }
@@ -324,14 +328,14 @@ fn tokens_of<L: Ledger>(
     else {
         return Ok(String::from_str(alloc, "no setting")?);
     };
-    let mut table = Numbering::new(alloc, 100);
+    let mut table = Numbering::new(alloc, 10_000);
     let mut steps: Steps<L> = Steps::new(blank);
     let mut text = String::new(alloc);
     let mut state = StateId(0);
     table.known();
     for line in lines.split('|') {
         let chars: Vec<char> = line.chars().collect(alloc)?;
-        if chars.len() > 100 {
+        if chars.len() > 1_000 {
             return Ok(String::from_str(alloc, "a long line")?);
         }
         match line_from(&setting, &mut table, state, &Line::new(chars), &mut steps) {
@@ -358,11 +362,7 @@ fn rules_inside_themselves(rt: HostRuntime) -> Result<(), Fail> {
         (&[BEFORE_B], "abx|zzz", " | 0o 1c | 0c 2o"),
         // and so where the rule around is of another line
         (&[BEFORE_B], "b|b|zzz", " | 0c | 0c | 0c 2o"),
-        (
-            &[("\\(", "\\)", "comment.t", &[1])],
-            "(()())x|((|)))",
-            " | 0c 6o | 0c | 0c 2o",
-        ),
+        (&[BRACKET], "(()())x|((|)))", " | 0c 6o | 0c | 0c 2o"),
     ];
     for (opened, lines, tokens) in rows {
         assert_eq!(rt;
@@ -371,5 +371,25 @@ fn rules_inside_themselves(rt: HostRuntime) -> Result<(), Fail> {
             "{lines}"
         );
     }
+    Ok(())
+}
+
+/// 512 rules may be open, the root among them. The second line leaves 511 rules, and all are left then.
+#[test]
+fn rules_are_open_up_to_their_limit(rt: HostRuntime) -> Result<(), Fail> {
+    let alloc = rt.alloc();
+    let mut lines = String::new(alloc);
+    for _ in 0..520 {
+        lines.push('(')?;
+    }
+    lines.push('|')?;
+    for _ in 0..511 {
+        lines.push(')')?;
+    }
+    lines.push('x')?;
+    assert_eq!(rt;
+        tokens_of::<Brand>(alloc, &[BRACKET], lines.as_str(), Blank::new(1))?.as_str(),
+        " | 0c | 0c 511o"
+    );
     Ok(())
 }

@@ -217,7 +217,7 @@ fn other_forms_are_refused(rt: HostRuntime) -> Result<(), Fail> {
         (
             [
                 SETTINGS,
-                r#"{"scopeName":"a","patterns":[{"match":"a*"}]}"#,
+                r#"{"scopeName":"a","patterns":[{"match":"a","captures":{}}]}"#,
                 "x",
                 "",
             ],

@@ -14,8 +14,8 @@ abbrev pub name_from : Option Data → Option (Option (List ℕ))
 name_from None = Some None
 name_from (Some d) = option_map Some (scope_name_of d)
 
-abbrev pub name_in : Data → Option (Option (List ℕ))
-name_in d = name_from (get (codes "name") d)
+abbrev pub name_in : List ℕ → Data → Option (Option (List ℕ))
+name_in key d = name_from (get key d)
 
 abbrev pub one_if : Bool → ℕ
 one_if b = if b then 1 else 0
@@ -23,14 +23,19 @@ one_if b = if b then 1 else 0
 -- a rule with `match`, perhaps `name`, and no other key
 abbrev pub match_of : Data → Option Rule
 match_of d = if nat_eq (member_count d) (1 + one_if (has_key (codes "name") d))
-    then option_and_then (λ name. option_map (λ pattern. Match pattern name) (pattern_at (codes "match") d)) (name_in d)
+    then option_and_then (λ name. option_map (λ pattern. Match pattern name) (pattern_at (codes "match") d)) (name_in (codes "name") d)
     else None
 
--- a rule with `begin`, `end`, perhaps `name` and `patterns`, and no other key; the rules inside it have these numbers
+-- how many of the keys a rule has that it may have beside `begin` and `end`
+abbrev pub other_keys : Data → ℕ
+other_keys d = one_if (has_key (codes "name") d) + one_if (has_key (codes "contentName") d) + one_if (has_key (codes "patterns") d)
+
+-- a rule with `begin`, `end`, perhaps `name`, `contentName` and `patterns`, and no other key; the rules inside it have
+-- these numbers
 abbrev pub begin_of : List ℕ → Data → Option Rule
-begin_of numbers d = if nat_eq (member_count d) (2 + one_if (has_key (codes "name") d) + one_if (has_key (codes "patterns") d))
-    then option_and_then (λ name. option_and_then (λ begin. option_map (λ end. BeginEnd begin end name numbers)
-    (pattern_at (codes "end") d)) (pattern_at (codes "begin") d)) (name_in d)
+begin_of numbers d = if nat_eq (member_count d) (2 + other_keys d)
+    then option_and_then (λ name. option_and_then (λ content_name. option_and_then (λ begin. option_map (λ end. BeginEnd begin end name content_name numbers)
+    (pattern_at (codes "end") d)) (pattern_at (codes "begin") d)) (name_in (codes "contentName") d)) (name_in (codes "name") d)
     else None
 
 -- the rules that a list names by number, and all rules with those inside them, by rising number

@@ -6,7 +6,7 @@
 ghost use Rattle.std.specs.Prelude.{◌≡◌, ◌+◌, ◌≤◌, ◌∷◌, [], IfOk, IfSome, option_map};
 ghost use Rattle.serde_json.specs.View.{view, items_view};
 ghost use Rattle.tm_line.specs.Rules.{rule_data, rules_data};
-ghost use Rattle.tm_forms.specs.Rules.{name_in, match_of, begin_of, rules_at, patterns_inside, listed, one_if, listed_of};
+ghost use Rattle.tm_forms.specs.Rules.{name_in, match_of, begin_of, rules_at, patterns_inside, listed, one_if, other_keys, listed_of};
 
 use crate::{json, letters, patterns};
 use serde_json::Value;
@@ -16,11 +16,11 @@ use tm_defs::rules::Numbers;
 use tm_defs::texts::Name;
 use tm_line::rules::Rule;
 
-/// The name, which may be absent; nothing where it is no scope name.
-fn name_of(alloc: Global, value: &Value) -> Result<Option<Option<Name>>, OutOfMemory>
-    ensures { IfOk result (λ name. name ≡ name_in (view value.now)) }
+/// The name at a key, which may be absent; nothing where it is no scope name.
+fn name_of(alloc: Global, value: &Value, key: &str) -> Result<Option<Option<Name>>, OutOfMemory>
+    ensures { IfOk result (λ name. name ≡ name_in key.now (view value.now)) }
 {
-    let Some(value) = value.get("name") else {
+    let Some(value) = value.get(key) else {
         return Ok(Some(None));
     };
     match letters::scope_name(alloc, value)? {
@@ -44,7 +44,7 @@ fn match_in(alloc: Global, value: &Value) -> Result<Option<Rule>, OutOfMemory>
     if json::size_of(value) != 1 + count_of(json::has(value, "name")) {
         return Ok(None);
     }
-    let Some(name) = name_of(alloc, value)? else {
+    let Some(name) = name_of(alloc, value, "name")? else {
         return Ok(None);
     };
     let Some(pattern) = patterns::pattern_in(alloc, value, "match")? else {
@@ -53,16 +53,27 @@ fn match_in(alloc: Global, value: &Value) -> Result<Option<Rule>, OutOfMemory>
     Ok(Some(Rule::Match { pattern, name }))
 }
 
+/// How many keys a rule has that it may have beside `begin` and `end`.
+fn other_keys(value: &Value) -> usize
+    ensures value { result ≡ other_keys (view value.now) }
+    ensures small { result ≤ 3 }
+{
+    count_of(json::has(value, "name"))
+        + count_of(json::has(value, "contentName"))
+        + count_of(json::has(value, "patterns"))
+}
+
 /// A rule with `begin` and `end`, and the rules of these numbers inside it.
 fn begin_in(alloc: Global, value: &Value, patterns: Numbers) -> Result<Option<Rule>, OutOfMemory>
     ensures { IfOk result (λ rule. option_map rule_data rule ≡ begin_of patterns (view value.now)) }
 {
-    if json::size_of(value)
-        != 2 + count_of(json::has(value, "name")) + count_of(json::has(value, "patterns"))
-    {
+    if json::size_of(value) != 2 + other_keys(value) {
         return Ok(None);
     }
-    let Some(name) = name_of(alloc, value)? else {
+    let Some(name) = name_of(alloc, value, "name")? else {
+        return Ok(None);
+    };
+    let Some(content_name) = name_of(alloc, value, "contentName")? else {
         return Ok(None);
     };
     let Some(begin) = patterns::pattern_in(alloc, value, "begin")? else {
@@ -75,6 +86,7 @@ fn begin_in(alloc: Global, value: &Value, patterns: Numbers) -> Result<Option<Ru
         begin,
         end,
         name,
+        content_name,
         patterns,
     }))
 }

@@ -74,12 +74,14 @@ fn grammar_text(alloc: Global, bytes: &[u8]) -> Result<String, Fail> {
                 begin,
                 end,
                 name,
+                content_name,
                 patterns,
             } => {
                 text.push_str(", begin")?;
                 push_name(&mut text, begin)?;
                 push_name(&mut text, end)?;
                 push_optional(&mut text, name)?;
+                push_optional(&mut text, content_name)?;
                 push_numbers(alloc, &mut text, patterns)?;
             }
             Rule::Only { patterns } => {
@@ -215,7 +217,7 @@ fn settings_of_their_form(rt: HostRuntime) -> Result<(), Fail> {
     Ok(())
 }
 
-const OTHER_GRAMMARS: [&str; 23] = [
+const OTHER_GRAMMARS: [&str; 25] = [
     "{\"patterns\":[]}",
     "{\"scopeName\":\"s\"}",
     "{\"scopeName\":\"\",\"patterns\":[]}",
@@ -236,12 +238,14 @@ const OTHER_GRAMMARS: [&str; 23] = [
     "{\"scopeName\":\"s\",\"patterns\":[{\"end\":\"e\"}]}",
     "{\"scopeName\":\"s\",\"patterns\":[{\"begin\":\"b\",\"end\":\"\"}]}",
     "{\"scopeName\":\"s\",\"patterns\":[{\"begin\":\"\",\"end\":\"e\"}]}",
+    "{\"scopeName\":\"s\",\"patterns\":[{\"begin\":\"b\",\"end\":\"e\",\"contentName\":\"I\"}]}",
+    "{\"scopeName\":\"s\",\"patterns\":[{\"match\":\"a\",\"contentName\":\"i\"}]}",
     "{\"scopeName\":\"s\",\"patterns\":[{\"begin\":\"b\",\"end\":\"e\",\"patterns\":1}]}",
     "{\"scopeName\":\"s\",\"patterns\":[{\"begin\":\"b\",\"end\":\"e\",\"patterns\":[{}]}]}",
     "{\"scopeName\":\"s\",\"patterns\":[{\"begin\":\"b\",\"end\":\"e\",\"while\":\"w\"}]}",
 ];
 
-const GRAMMARS: [(&str, &str); 6] = [
+const GRAMMARS: [(&str, &str); 7] = [
     ("{\"scopeName\":\"s.t\",\"patterns\":[]}", " s.t, only"),
     (
         "\u{feff}{\"patterns\":[{\"match\":\"let\",\"name\":\"keyword.t\"},{\"match\":\"x\"}],\"scopeName\":\".\"}",
@@ -249,7 +253,7 @@ const GRAMMARS: [(&str, &str); 6] = [
     ),
     (
         "{\"scopeName\":\"s\",\"patterns\":[{\"begin\":\"q\",\"end\":\"p\",\"name\":\"c\",\"patterns\":[{\"match\":\"a\"},{\"begin\":\"b\",\"end\":\"e\",\"patterns\":[{\"match\":\"c\"}]},{\"match\":\"d\"}]},{\"begin\":\"z\",\"end\":\"z\"}]}",
-        " s, only 1 6, begin q p c 2 3 5, match a -, begin b e - 4, match c -, match d -, begin z z -",
+        " s, only 1 6, begin q p c - 2 3 5, match a -, begin b e - - 4, match c -, match d -, begin z z - -",
     ),
     (
         "{\"scopeName\":\"s\",\"patterns\":[{\"match\":\"A\",\"match\":\"a\"}]}",
@@ -257,11 +261,15 @@ const GRAMMARS: [(&str, &str); 6] = [
     ),
     (
         "{\"scopeName\":\"s\",\"patterns\":[{\"match\":\"é\\\\+(\\\\d|x)\"},{\"begin\":\"\\\\b[b-d]+?\",\"end\":\"$a|d$\"}]}",
-        " s, only 1 2, match é\\+(\\d|x) -, begin \\b[b-d]+? $a|d$ -",
+        " s, only 1 2, match é\\+(\\d|x) -, begin \\b[b-d]+? $a|d$ - -",
+    ),
+    (
+        "{\"scopeName\":\"s\",\"patterns\":[{\"begin\":\"b\",\"end\":\"e\",\"contentName\":\"i\"},{\"begin\":\"b\",\"end\":\"e\",\"name\":\"n\",\"contentName\":\"i\",\"patterns\":[]}]}",
+        " s, only 1 2, begin b e - i, begin b e n i",
     ),
     (
         "{\"scopeName\":\"s\",\"patterns\":[{\"match\":\"a(\"},{\"begin\":\"(?=a)\",\"end\":\"\\\\Gb*\"}]}",
-        " s, only 1 2, match a( -, begin (?=a) \\Gb* -",
+        " s, only 1 2, match a( -, begin (?=a) \\Gb* - -",
     ),
 ];
 

@@ -59,7 +59,7 @@ module _ (text : List ℕ) (at : ℕ) (allow_a allow_g : Bool) where
   module _ (rules : List Rule) where
     started-within : (f : Found) (n : ℕ) (r : Option Rule) → slice_get rules n ≡ r → f.end ≤ length text → IsWinnerWithin (length rules) (length text) (started f n r)
     started-within f n (Some (Match pattern name)) e h = h
-    started-within f n (Some (BeginEnd begin end name patterns)) e h = (h, slice_get_within rules n _ e)
+    started-within f n (Some (BeginEnd begin end name content_name patterns)) e h = (h, slice_get_within rules n _ e)
     started-within f n (Some (Only patterns)) e h = tt
     started-within f n None e h = tt
 

@@ -3,6 +3,7 @@ pub mod Causes
 pub mod Found
 pub mod Insides
 pub mod Lines
+pub mod Opens
 pub mod Paths
 pub mod Starts
 pub mod Tokens

@@ -1,7 +1,7 @@
 -- What the body's steps are in the line relation.
-use Rattle.std.proofs.Common.{◌≡◌, ℕ, ◌+◌, ◌<◌, ◌≤◌, ◌++◌, arith, List, [], ◌∷◌, length, reverse, Some, None, Option, Bool, true, false, not, nat_eq, nat_lt, eqb-true, refl, ap, sym, ◌∙◌, get_or, subst, append_assoc}
+use Rattle.std.proofs.Common.{◌≡◌, ℕ, ◌+◌, ◌<◌, ◌≤◌, ◌++◌, arith, List, [], ◌∷◌, length, reverse, Some, None, Option, Bool, true, false, not, nat_eq, nat_lt, eqb-true, refl, ap, sym, ◌∙◌, get_or, subst, append_assoc, length-append}
 use Rattle.std.specs.Prelude.{slice_get, Result, Ok, Err, IfOk, IfErr, OnOk, IsTrue, ◌==◌, ◌&&◌, max}
-use Rattle.std.proofs.lemmas.List.{reverse-append, reverse-reverse}
+use Rattle.std.proofs.lemmas.List.{reverse-append, reverse-reverse, length-reverse}
 use Rattle.std.proofs.lemmas.Option.{slice_get-get_or, get_or_from_slice_get}
 use Rattle.std.proofs.lemmas.Bool.{eqb-false}
 use Rattle.tm_defs.specs.declared.frames.FrameData.{FrameData}
@@ -14,7 +14,7 @@ use Rattle.tm_defs.specs.declared.tokenizer.LineFault.{LineFault}
 use Rattle.tm_defs.proofs.Chains.{grows-left, grows-then, full-first, full_err-then, state_at-grown, path_at-grown, path_at-is}
 use Rattle.tm_defs.proofs.Growth.{slice_get-grown, tables-refl}
 use Rattle.tm_line_run.specs.LineRun as line
-use Rattle.tm_line_run.specs.LineRun.{Place, Grammar, Turn, Stops, GoesOn, stack_of, piece, paints, names_made, state_made, opened, closing, popped, popped_contents, near, has, left_entries, anchor_before, is_anchored, some_open, rests, ended, begun, matched, asked, by_winner, paid, turn}
+use Rattle.tm_line_run.specs.LineRun.{Place, Grammar, Turn, Stops, GoesOn, stack_of, piece, paints, names_made, state_made, framed, closing, popped, popped_contents, near, has, left_entries, anchor_before, is_anchored, some_open, most_open, rests, ended, entered, begun, matched, asked, by_winner, paid, turn}
 use Rattle.tm_line_run.specs.Painted.{painted}
 use Rattle.tm_line_run.specs.declared.painter.Painted.{Painted}
 use Rattle.tm_line_run.proofs.Turns.{both}
@@ -23,7 +23,7 @@ use Rattle.tm_line.specs.declared.rules.Found.{Found}
 use Rattle.tm_line.specs.declared.turn.Here.{Here}
 use Rattle.tm_line.specs.declared.turn.Next.{Next}
 use Rattle.tm_line.specs.declared.turn.Next.TheVariants as next
-use Rattle.tm_line.specs.Grammar.{match_of, names_of, started, of_candidate, of_found, rules_grammar}
+use Rattle.tm_line.specs.Grammar.{match_of, names_of, content_names_of, started, of_candidate, of_found, rules_grammar}
 use Rattle.tm_meta.specs.Metadata.{metadata_of}
 use Rattle.tm_line.specs.Search.{Candidate, earliest, searches_cost, flattened_candidates}
 use Rattle.tm_line.specs.Searched.{Searches}
@@ -165,64 +165,95 @@ module _ (t : Tables) (old new : List Painted) where
   pushed : (h : Here) (w : Spot) (top : FrameData) → IsHere t h → state_at t h.state ++ top ∷ [] ≡ reverse (top ∷ stack_of (place_here t h w))
   pushed h w top here = sym (reverse-append (top ∷ []) (stack_of (place_here t h w)) ∙ ap (λ l. l ++ top ∷ []) (sym (stack-here t h w here)))
 
-  begun-made : (end : ℕ) (p : Place) (n : ℕ) (m : line.Match) (names : List (List ℕ)) (P : TableEntries → Type 0) → P (names_made p.top.contents names) →
-      P (more_made (names_made p.top.contents names) (state_made (opened n (p.top.contents ++ names) (m.end == end) ∷ stack_of p))) → P (made_in (begun end p n m names))
-  begun-made end p n m names P few more = both (λ turn. P (made_in turn)) (not (line.advances p m) && has (near p.at p.entries) n) _ _ (λ _. few) (λ _. more)
+  entered-made : (end : ℕ) (p : Place) (n : ℕ) (m : line.Match) (names inside : List (List ℕ)) (P : TableEntries → Type 0) → P (names_made p.top.contents names) →
+      (let scopes = p.top.contents ++ names in P (more_made (names_made p.top.contents names) (more_made (names_made scopes inside) (state_made (framed n scopes (scopes ++ inside) (m.end == end) ∷ stack_of p))))) →
+      P (made_in (entered end p n m names inside))
+  entered-made end p n m names inside P few more = both (λ turn. P (made_in turn)) (not (line.advances p m) && has (near p.at p.entries) n) _ _ (λ _. few) (λ _. more)
 
   -- a begin whose names could not be pushed
-  pub does-begin-err : (end : ℕ) (u : Tables) (h : Here) (w v : Spot) (f : Found) (n : ℕ) (names : List (List ℕ)) (cause : TableFault) →
+  pub does-enter-err : (end : ℕ) (u : Tables) (h : Here) (w v : Spot) (f : Found) (n : ℕ) (names inside : List (List ℕ)) (cause : TableFault) →
       GrowsWithin (names_made (path_at t h.frame.contents) names) t u → IsFullForSome (names_made (path_at t h.frame.contents) names) u cause →
-      Does (begun end (place_here t h w) n (match_of f) names) t u old new v (Err cause)
-  does-begin-err end u h w v f n names cause grown full = record {
+      Does (entered end (place_here t h w) n (match_of f) names inside) t u old new v (Err cause)
+  does-enter-err end u h w v f n names inside cause grown full = record {
     ok = tt;
-    grows = begun-made end (place_here t h w) n (match_of f) names (λ made. GrowsWithin made t u) grown (grows-left _ _ t u grown);
-    full = begun-made end (place_here t h w) n (match_of f) names (λ made. IsFullForSome made u cause) full (full-first _ _ u cause full);
+    grows = entered-made end (place_here t h w) n (match_of f) names inside (λ made. GrowsWithin made t u) grown (grows-left _ _ t u grown);
+    full = entered-made end (place_here t h w) n (match_of f) names inside (λ made. IsFullForSome made u cause) full (full-first _ _ u cause full);
   }
 
   -- the line stops at a begin that is stuck
-  pub does-begin-stuck : (now : List Painted) (end : ℕ) (u : Tables) (h : Here) (w v : Spot) (f : Found) (n : ℕ) (names : List (List ℕ)) → IsHere t h → is_stuck_begin w n (f.end) ≡ true →
+  pub does-enter-stuck : (now : List Painted) (end : ℕ) (u : Tables) (h : Here) (w v : Spot) (f : Found) (n : ℕ) (names inside : List (List ℕ)) → IsHere t h → is_stuck_begin w n (f.end) ≡ true →
       GrowsWithin (names_made (path_at t h.frame.contents) names) t u →
       now ≡ old ++ painted metadata_of (paints (path_at t h.frame.contents) (path_at t h.frame.contents ++ names) (match_of f)) →
       new ≡ now ++ record { end = end; meta = metadata_of (path_at t h.frame.contents) } ∷ [] →
-      Does (begun end (place_here t h w) n (match_of f) names) t u old new v (Ok (next.Stops h.state))
-  does-begin-stuck now end u h w v f n names here stuck grown first e = rw stuck (record {
+      Does (entered end (place_here t h w) n (match_of f) names inside) t u old new v (Ok (next.Stops h.state))
+  does-enter-stuck now end u h w v f n names inside here stuck grown first e = rw stuck (record {
     ok = record { pieces = more-pieces old now new _ _ _ first e; leads = slice_get-grown _ t.states u.states h.state.0 _ grown.states (state-here t h w here) };
     grows = grown;
     full = tt;
   })
 
-  -- a rule begins
-  pub does-begin : (end : ℕ) (u x : Tables) (h : Here) (w v : Spot) (f : Found) (n : ℕ) (names : List (List ℕ)) (path : ScopeList) (result : Result Next TableFault) → IsHere t h → is_stuck_begin w n (f.end) ≡ false →
+  -- a rule is open from here on
+  pub does-enter : (end : ℕ) (u x : Tables) (h : Here) (w v : Spot) (f : Found) (n : ℕ) (names inside : List (List ℕ)) (path : ScopeList) (result : Result Next TableFault) → IsHere t h → is_stuck_begin w n (f.end) ≡ false →
       slice_get u.paths path.0 ≡ Some (path_at t h.frame.contents ++ names) → GrowsWithin (names_made (path_at t h.frame.contents) names) t u →
-      let top = opened n (path_at u path) (f.end == end) in
-      IfOk result (λ next. GoesOnAt x (state_at u h.state ++ top ∷ []) next) → OnOk result (v ≡ entered_spot w n (f.end)) →
-      GrowsWithin (only_state (state_at u h.state ++ top ∷ [])) u x → IfErr result (IsFullForSome (only_state (state_at u h.state ++ top ∷ [])) x) →
+      let top = framed n (path_at u path) (path_at u path ++ inside) (f.end == end) in
+      let made = more_made (names_made (path_at u path) inside) (only_state (state_at u h.state ++ top ∷ [])) in
+      IfOk result (λ next. GoesOnAt x (state_at u h.state ++ top ∷ []) next) → OnOk result (v ≡ entered_spot w n (f.end)) → GrowsWithin made u x → IfErr result (IsFullForSome made x) →
       new ≡ old ++ painted metadata_of (paints (path_at t h.frame.contents) (path_at t h.frame.contents ++ names) (match_of f)) →
-      Does (begun end (place_here t h w) n (match_of f) names) t x old new v result
-  does-begin end u x h w v f n names path result here free at grown ok to grows full e =
-      let said : path_at u path ≡ path_at t h.frame.contents ++ names = path_at-is u path _ at in
+      Does (entered end (place_here t h w) n (match_of f) names inside) t x old new v result
+  does-enter end u x h w v f n names inside path result here free at grown ok to grows full e =
+      let said : path_at u path ≡ scopes = path_at-is u path _ at in
       let kept : state_at u h.state ≡ state_at t h.state = state_at-grown _ t u h.state here.state grown in
-      let top = opened n (path_at t h.frame.contents ++ names) (f.end == end) in
-      let frames : state_at u h.state ++ opened n (path_at u path) (f.end == end) ∷ [] ≡ reverse (top ∷ stack_of (place_here t h w)) =
-      ap (λ l. l ++ opened n (path_at u path) (f.end == end) ∷ []) kept ∙ ap (λ p. state_at t h.state ++ opened n p (f.end == end) ∷ []) said ∙ pushed h w top here in
+      let frames : state_at u h.state ++ framed n (path_at u path) (path_at u path ++ inside) (f.end == end) ∷ [] ≡ all_frames =
+      ap (λ l. l ++ framed n (path_at u path) (path_at u path ++ inside) (f.end == end) ∷ []) kept ∙ ap (λ p. state_at t h.state ++ framed n p (p ++ inside) (f.end == end) ∷ []) said ∙ pushed h w top here in
+      let all : more_made (names_made (path_at u path) inside) (only_state (state_at u h.state ++ framed n (path_at u path) (path_at u path ++ inside) (f.end == end) ∷ [])) ≡ more_made (names_made scopes inside) (only_state all_frames) =
+      ap (λ l. more_made (names_made (path_at u path) inside) (only_state l)) frames ∙ ap (λ p. more_made (names_made p inside) (only_state all_frames)) said in
       let P : List FrameData → Type 0 = λ l. IfOk result (λ next. GoesOnAt x l next) in
-      let Q : List FrameData → Type 0 = λ l. GrowsWithin (only_state l) u x in
-      let R : List FrameData → Type 0 = λ l. IfErr result (IsFullForSome (only_state l) x) in
-      rw free (by_result result (subst P frames ok) to (subst Q frames grows) (subst R frames full))
+      let Q : TableEntries → Type 0 = λ made. GrowsWithin made u x in
+      let R : TableEntries → Type 0 = λ made. IfErr result (IsFullForSome made x) in
+      rw free (by_result result (subst P frames ok) to (subst Q all grows) (subst R all full))
     where
+      scopes : List (List ℕ)
+      scopes = path_at t h.frame.contents ++ names
+
+      top : FrameData
+      top = framed n scopes (scopes ++ inside) (f.end == end)
+
       all_frames : List FrameData
-      all_frames = reverse (opened n (path_at t h.frame.contents ++ names) (f.end == end) ∷ stack_of (place_here t h w))
+      all_frames = reverse (top ∷ stack_of (place_here t h w))
+
+      rest_made : TableEntries
+      rest_made = more_made (names_made scopes inside) (only_state all_frames)
 
       the_turn : Turn
-      the_turn = GoesOn (line.adds (paints (path_at t h.frame.contents) (path_at t h.frame.contents ++ names) (match_of f)) (more_made (names_made (path_at t h.frame.contents) names) (only_state all_frames)))
-          (line.onward (place_here t h w) (match_of f) (opened n (path_at t h.frame.contents ++ names) (f.end == end)) (stack_of (place_here t h w))
-          (record { rule = n; at = w.at; anchor = w.anchor } ∷ w.entries) (Some (f.end)))
+      the_turn = GoesOn (line.adds (paints (path_at t h.frame.contents) scopes (match_of f)) (more_made (names_made (path_at t h.frame.contents) names) rest_made))
+          (line.onward (place_here t h w) (match_of f) top (stack_of (place_here t h w)) (record { rule = n; at = w.at; anchor = w.anchor } ∷ w.entries) (Some (f.end)))
 
-      by_result : (r : Result Next TableFault) → IfOk r (λ next. GoesOnAt x all_frames next) → OnOk r (v ≡ entered_spot w n (f.end)) → GrowsWithin (only_state all_frames) u x →
-          IfErr r (IsFullForSome (only_state all_frames) x) → Does the_turn t x old new v r
+      by_result : (r : Result Next TableFault) → IfOk r (λ next. GoesOnAt x all_frames next) → OnOk r (v ≡ entered_spot w n (f.end)) → GrowsWithin rest_made u x → IfErr r (IsFullForSome rest_made x) → Does the_turn t x old new v r
       by_result (Ok (next.Stops state)) ok to grows full = absurd ok
       by_result (Ok (next.GoesOn state)) ok to grows full = record { ok = record { pieces = e; leads = (ok, to) }; grows = grows-then _ _ t u x grown grows; full = tt }
       by_result (Err cause) ok to grows full = record { ok = tt; grows = grows-then _ _ t u x grown grows; full = full_err-then {V = Next} (names_made (path_at t h.frame.contents) names) _ x (Err cause) full }
+
+  -- how many rules are open at a place
+  open-here : (h : Here) (w : Spot) → IsHere t h → length (stack_of (place_here t h w)) ≡ length (state_at t h.state)
+  open-here h w here = let size = length-reverse (state_at t h.below) in omega (arith, size, ap length here.split, length-append (state_at t h.below) (frame_at t h.frame ∷ []))
+
+  -- a rule begins where there is room for it
+  pub does-begin : (end : ℕ) (u : Tables) (h : Here) (w v : Spot) (f : Found) (n : ℕ) (names inside : List (List ℕ)) (result : Result Next TableFault) → IsHere t h → not (nat_lt (length (state_at t h.state)) most_open) ≡ false →
+      Does (entered end (place_here t h w) n (match_of f) names inside) t u old new v result → Does (begun end (place_here t h w) n (match_of f) names inside) t u old new v result
+  does-begin end u h w v f n names inside result here room does = rw (ap (λ k. nat_lt k most_open) (open-here h w here) ∙ not-false _ room) does
+    where
+      not-false : (b : Bool) → not b ≡ false → b ≡ true
+      not-false true e = refl
+      not-false false e = absurd cc
+
+  -- and else the line rests
+  pub does-begin-full : (end : ℕ) (u : Tables) (h : Here) (w v : Spot) (f : Found) (n : ℕ) (names inside : List (List ℕ)) (result : Result Next TableFault) → IsHere t h → not (nat_lt (length (state_at t h.state)) most_open) ≡ true →
+      Does (rests end (place_here t h w)) t u old new v result → Does (begun end (place_here t h w) n (match_of f) names inside) t u old new v result
+  does-begin-full end u h w v f n names inside result here full does = rw (ap (λ k. nat_lt k most_open) (open-here h w here) ∙ not-true _ full) does
+    where
+      not-true : (b : Bool) → not b ≡ true → b ≡ false
+      not-true false e = refl
+      not-true true e = absurd cc
 
 -- a turn's cost is no matter for what is done
 does-paid : (steps : ℕ) (turn : Turn) (t u : Tables) (old new : List Painted) (v : Spot) (result : Result Next TableFault) → Does turn t u old new v result → Does (paid steps turn) t u old new v result
@@ -239,7 +270,7 @@ module _ (rules : List Rule) (text : List ℕ) where
 
   turn_of-is : (p : Place) (f : Found) (n : ℕ) (r : Option Rule) → slice_get rules n ≡ r → turn_of (length text) p f n r ≡ by_winner g p (started f n r)
   turn_of-is p f n (Some (Match pattern name)) e = ap (λ r. matched (length text) p (match_of f) (names_of r)) (sym e)
-  turn_of-is p f n (Some (BeginEnd begin stop name patterns)) e = ap (λ r. begun (length text) p n (match_of f) (names_of r)) (sym e)
+  turn_of-is p f n (Some (BeginEnd begin stop name content_name patterns)) e = ap (λ r. begun (length text) p n (match_of f) (names_of r) (content_names_of r)) (sym e)
   turn_of-is p f n (Some (Only patterns)) e = refl
   turn_of-is p f n None e = refl
 

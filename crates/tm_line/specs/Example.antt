@@ -1,5 +1,5 @@
 -- Worked lines: a grammar of three rules, and what it gives.
-use Rattle.std.specs.Prelude.{ℕ, List, [], ◌∷◌, ◌++◌, Option, Some, false, codes}
+use Rattle.std.specs.Prelude.{ℕ, List, [], ◌∷◌, ◌++◌, Option, Some, None, false, codes}
 use Rattle.tm_defs.specs.declared.frames.FrameData.{FrameData}
 use Rattle.tm_defs.specs.declared.tokens.Token.{Token}
 use Rattle.tm_onig_class.specs.Tree.{Tree, Char, InSet, Cat, NoTrees, More}
@@ -18,7 +18,7 @@ abbrev pub example : Setting
 example = setting_of (codes "source.t") (
     Only (1 ∷ 2 ∷ [])
     ∷ Match (Some (InSet ((48, 57) ∷ []) false)) (Some (codes "string.t"))
-    ∷ BeginEnd (Some (letters 47 42)) (Some (letters 42 47)) (Some (codes "comment.t")) (1 ∷ [])
+    ∷ BeginEnd (Some (letters 47 42)) (Some (letters 42 47)) (Some (codes "comment.t")) None (1 ∷ [])
     ∷ [])
 
 -- the line `1 /*2`, its text with the line break, and the candidates at its start

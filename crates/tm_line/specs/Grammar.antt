@@ -13,7 +13,7 @@ match_of f = record { start = f.start; end = f.end }
 -- a match rule matches, and a begin/end rule begins
 abbrev pub started : Found → ℕ → Option Rule → Winner
 started f n (Some (Match pattern name)) = Matches n (match_of f)
-started f n (Some (BeginEnd begin end name patterns)) = Begins n (match_of f)
+started f n (Some (BeginEnd begin end name content_name patterns)) = Begins n (match_of f)
 started f n (Some (Only patterns)) = Nothing
 started f n None = Nothing
 
@@ -28,9 +28,14 @@ of_found rules (Some f) = of_candidate rules f f.candidate
 -- a name is pushed as one scope
 abbrev pub names_of : Option Rule → List (List ℕ)
 names_of (Some (Match pattern name)) = option_to_list name
-names_of (Some (BeginEnd begin end name patterns)) = option_to_list name
+names_of (Some (BeginEnd begin end name content_name patterns)) = option_to_list name
 names_of (Some (Only patterns)) = []
 names_of None = []
+
+-- and so is a content name
+abbrev pub content_names_of : Option Rule → List (List ℕ)
+content_names_of (Some (BeginEnd begin end name content_name patterns)) = option_to_list content_name
+content_names_of rule = []
 
 -- a turn searches every candidate of the open rule
 abbrev pub rules_grammar : List Rule → List ℕ → Grammar
@@ -41,4 +46,5 @@ rules_grammar rules text = record {
       of_found rules (earliest text at first anchored (flattened_candidates rules has_end frame.rule));
   cost = λ frame has_end at first anchored. searches_cost text at first anchored (flattened_candidates rules has_end frame.rule);
   names = λ rule m. names_of (slice_get rules rule);
+  content_names = λ rule m. content_names_of (slice_get rules rule);
 }

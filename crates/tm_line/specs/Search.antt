@@ -49,7 +49,7 @@ searches_cost text at allow_a allow_g cs = scan_cost text at allow_a allow_g (pa
 -- nothing here, nor does a number without a rule
 abbrev pub contributed : ℕ → Option Rule → List Candidate
 contributed n (Some (Match pattern name)) = candidate_of (Some n) pattern ∷ []
-contributed n (Some (BeginEnd begin end name patterns)) = candidate_of (Some n) begin ∷ []
+contributed n (Some (BeginEnd begin end name content_name patterns)) = candidate_of (Some n) begin ∷ []
 contributed n (Some (Only patterns)) = []
 contributed n None = []
 
@@ -59,11 +59,11 @@ listed_candidates rules (n ∷ ns) = contributed n (slice_get rules n) ++ listed
 
 -- the end of an open rule, and the starts of the rules in it. A match rule has none
 abbrev pub ends_in : Option Rule → List Candidate
-ends_in (Some (BeginEnd begin end name patterns)) = candidate_of None end ∷ []
+ends_in (Some (BeginEnd begin end name content_name patterns)) = candidate_of None end ∷ []
 ends_in rule = []
 
 abbrev pub starts_in : List Rule → Option Rule → List Candidate
-starts_in rules (Some (BeginEnd begin end name patterns)) = listed_candidates rules patterns
+starts_in rules (Some (BeginEnd begin end name content_name patterns)) = listed_candidates rules patterns
 starts_in rules (Some (Only patterns)) = listed_candidates rules patterns
 starts_in rules rule = []
 

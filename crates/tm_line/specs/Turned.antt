@@ -122,7 +122,7 @@ of_search find.OutOfMemory = fault.OutOfMemory
 -- the turn at which the rule of this number was found
 abbrev pub turn_of : ℕ → Place → Found → ℕ → Option Rule → Turn
 turn_of end p f n (Some (Match pattern name)) = matched end p (match_of f) (option_to_list name)
-turn_of end p f n (Some (BeginEnd begin stop name patterns)) = begun end p n (match_of f) (option_to_list name)
+turn_of end p f n (Some (BeginEnd begin stop name content_name patterns)) = begun end p n (match_of f) (option_to_list name) (option_to_list content_name)
 turn_of end p f n (Some (Only patterns)) = rests end p
 turn_of end p f n None = rests end p
 

@@ -44,6 +44,7 @@ fn contribute(
                 begin,
                 end: _,
                 name: _,
+                content_name: _,
                 patterns: _,
             },
         ) => {
@@ -96,6 +97,7 @@ fn inside_of(alloc: Global, rules: &[Rule], rule: &Rule) -> Result<Inside, OutOf
             begin: _,
             end,
             name: _,
+            content_name: _,
             patterns,
         } => {
             let mut ends = Vec::new(alloc);

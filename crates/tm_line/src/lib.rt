@@ -26,6 +26,7 @@ ghost use Rattle.tm_line.specs.Rules.{Rule};
 ghost use Rattle.tm_line.specs.Search.{earliest, searches_cost};
 ghost use Rattle.tm_line.specs.Tokenizing.{rules_cost, rules_tokenized};
 
+mod begin;
 mod inside;
 pub mod rules;
 mod run;

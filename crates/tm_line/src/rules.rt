@@ -22,11 +22,12 @@ pub enum Rule {
         name: Option<Name>,
     },
     /// From a match of `begin` on the rule is open, up to and with the next match of `end` that no
-    /// candidate of `patterns` precedes.
+    /// candidate of `patterns` precedes. What is between the two has `content_name` too.
     BeginEnd {
         begin: Name,
         end: Name,
         name: Option<Name>,
+        content_name: Option<Name>,
         patterns: Numbers,
     },
     /// Only a list of rules, as the root of a grammar is.

@@ -2,7 +2,7 @@
 ghost use Rattle.std.specs.Prelude.{◌≡◌, ◌<◌, ◌++◌, ◌∷◌, [], length, IfOk, IfErr, slice_get, Some};
 ghost use Rattle.std.specs.Option.{option_to_list};
 ghost use Rattle.tm_defs.specs.Tables.{GrowsWithin, IsFullForSome, path_at, state_at, only_state};
-ghost use Rattle.tm_line_run.specs.LineRun.{names_made, opened};
+ghost use Rattle.tm_line_run.specs.LineRun.{framed, names_made};
 
 use tm_defs::frames::{Frame, ScopeList, StateId};
 use tm_defs::tables::{States, TableFault};
@@ -52,31 +52,33 @@ pub fn longer_list<S: States>(
     }
 }
 
-/// The state with a frame of this rule and this scope list added.
+/// The state with a frame of this rule added, with these scopes and these inside it.
 pub fn push_frame<S: States>(
     table: &mut S,
     state: StateId,
-    path: ScopeList,
+    names: ScopeList,
+    contents: ScopeList,
     rule: u32,
     at_eol: bool,
 ) -> Result<StateId, TableFault>
     requires state { state.0 < length (S.tables table.old).states }
-    requires path { path.0 < length (S.tables table.old).paths }
-    ensures ok { let frame = opened rule (path_at (S.tables table.old) path) at_eol in
+    requires names { names.0 < length (S.tables table.old).paths }
+    requires contents { contents.0 < length (S.tables table.old).paths }
+    ensures ok { let frame = framed rule (path_at (S.tables table.old) names) (path_at (S.tables table.old) contents) at_eol in
         IfOk result (λ id. slice_get (S.tables table.new).states id.0 ≡
         Some (state_at (S.tables table.old) state ++ frame ∷ [])) }
-    ensures grows { let frame = opened rule (path_at (S.tables table.old) path) at_eol in
+    ensures grows { let frame = framed rule (path_at (S.tables table.old) names) (path_at (S.tables table.old) contents) at_eol in
         GrowsWithin (only_state (state_at (S.tables table.old) state ++ frame ∷ []))
         (S.tables table.old) (S.tables table.new) }
-    ensures full { let frame = opened rule (path_at (S.tables table.old) path) at_eol in
+    ensures full { let frame = framed rule (path_at (S.tables table.old) names) (path_at (S.tables table.old) contents) at_eol in
         IfErr result (IsFullForSome (only_state (state_at (S.tables table.old) state ++ frame ∷ []))
         (S.tables table.new)) }
 {
     let frame = Frame {
         rule,
         end: None,
-        names: path,
-        contents: path,
+        names,
+        contents,
         at_eol,
     };
     table.intern(frame, state)

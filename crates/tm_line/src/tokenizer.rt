@@ -84,7 +84,7 @@ fn start_of<S: States>(table: &mut S, scope: &Name, start: StateId) -> Result<St
         return Ok(start);
     }
     match longer_list(table, ScopeList(0), scope) {
-        Ok(path) => push_frame(table, start, path, 0, false),
+        Ok(path) => push_frame(table, start, path, path, 0, false),
         Err(fault) => Err(fault),
     }
 }

@@ -15,9 +15,10 @@ ghost use Rattle.tm_line.specs.Rules.{rules_data};
 ghost use Rattle.tm_line.specs.Tokenizing.{Spot, place_of};
 ghost use Rattle.tm_line.specs.Turned.{Does, GoesOnAt, IsHere, StopsAt, Takes, entered_spot, of_search, of_table, place_here, spot_of, taken_turn, turn_of};
 
+use crate::begin::begins;
 use crate::rules::{Found, Rule, Rules};
 use crate::search::{Anchors, winner};
-use crate::tables::{named_list, push_frame};
+use crate::tables::named_list;
 use crate::way::{
     Way, advances, enters, goes_on, is_anchored, is_stuck_begin, is_stuck_end, leaves,
 };
@@ -70,7 +71,7 @@ fn paint_both<S: States>(
 }
 
 /// What was found is painted with the name, which the result has too.
-fn paint_named<S: States>(
+pub fn paint_named<S: States>(
     table: &mut S,
     pieces: &mut Vec<Painted>,
     outer: ScopeList,
@@ -104,7 +105,7 @@ fn paint_named<S: States>(
 }
 
 /// Nothing is found: the line stops. `len` is the text's length with its line break.
-fn rest<S: States>(
+pub fn rest<S: States>(
     table: &S,
     pieces: &mut Vec<Painted>,
     here: Here,
@@ -228,68 +229,6 @@ fn matches<S: States>(
     Ok(Next::GoesOn(here.state))
 }
 
-/// A rule begins, and its begin is painted.
-fn opens<S: States>(
-    table: &mut S,
-    state: StateId,
-    way: &mut Way,
-    path: ScopeList,
-    rule: u32,
-    found: Found,
-    len: usize,
-) -> Result<Next, TableFault>
-    requires state { state.0 < length (S.tables table.old).states }
-    requires path { path.0 < length (S.tables table.old).paths }
-    ensures ok { let frame = opened rule (path_at (S.tables table.old) path) (found.end == len) in
-        IfOk result (λ next. GoesOnAt (S.tables table.new) (state_at (S.tables table.old) state ++ frame ∷ []) next) }
-    ensures way { let old = spot_of way.old in
-        OnOk result (spot_of way.new ≡ entered_spot old rule found.end) }
-    ensures grows { let frame = opened rule (path_at (S.tables table.old) path) (found.end == len) in
-        GrowsWithin (only_state (state_at (S.tables table.old) state ++ frame ∷ [])) (S.tables table.old) (S.tables table.new) }
-    ensures full { let frame = opened rule (path_at (S.tables table.old) path) (found.end == len) in
-        IfErr result (IsFullForSome (only_state (state_at (S.tables table.old) state ++ frame ∷ [])) (S.tables table.new)) }
-{
-    match push_frame(table, state, path, rule, found.end == len) {
-        Ok(next) => {
-            let Ok(()) = enters(way, rule, found.end) else {
-                return Err(TableFault::OutOfMemory);
-            };
-            Ok(Next::GoesOn(next))
-        }
-        Err(fault) => Err(fault),
-    }
-}
-
-/// A rule begins. A begin that would come again without end leaves the open rules as they are, and the
-/// line stops.
-fn begins<S: States>(
-    table: &mut S,
-    pieces: &mut Vec<Painted>,
-    here: Here,
-    way: &mut Way,
-    found: Found,
-    rule: u32,
-    name: &Option<Name>,
-    len: usize,
-) -> Result<Next, TableFault>
-    requires { IsHere (S.tables table.old) here }
-    ensures { let p = place_here (S.tables table.old) here (spot_of way.old) in
-        Does (begun len p rule (match_of found) (option_to_list name.now))
-        (S.tables table.old) (S.tables table.new) pieces.old.items pieces.new.items (spot_of way.new) result }
-{
-    let path = match paint_named(table, pieces, here.frame.contents, name, found) {
-        Ok(path) => path,
-        Err(fault) => return Err(fault),
-    };
-    if is_stuck_begin(way, rule, found.end) {
-        let Ok(()) = paint(table, pieces, here.frame.contents, len) else {
-            return Err(TableFault::OutOfMemory);
-        };
-        return Ok(Next::Stops(here.state));
-    }
-    opens(table, here.state, way, path, rule, found, len)
-}
-
 /// The rule of a number is found.
 fn starts<S: States>(
     table: &mut S,
@@ -315,9 +254,10 @@ fn starts<S: States>(
                 begin: _,
                 end: _,
                 name,
+                content_name,
                 patterns: _,
             },
-        ) => begins(table, pieces, here, way, found, n, name, len),
+        ) => begins(table, pieces, here, way, found, n, name, content_name, len),
         Some(Rule::Only { patterns: _ }) => rest(table, pieces, here, len),
         None => rest(table, pieces, here, len),
     }

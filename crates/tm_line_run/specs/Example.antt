@@ -34,6 +34,7 @@ example = record {
   winner = λ frame has_end at first anchored. found frame.rule at;
   cost = λ frame has_end at first anchored. 10;
   names = λ rule m. names rule;
+  content_names = λ rule m. [];
 }
 
 abbrev pub start : Place

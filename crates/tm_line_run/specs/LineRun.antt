@@ -55,14 +55,15 @@ pub data Winner : Type 0 where
 
 -- what the rules say of one text: how many there are; its length with the line break; what is found from a
 -- position on by the innermost rule, whose end counts where the first Bool says that a rule is open around it,
--- where `\A` matches where the second says so, and `\G` where the third does; the steps of that search; and the
--- names that a found rule pushes
+-- where `\A` matches where the second says so, and `\G` where the third does; the steps of that search; the names
+-- that a found rule pushes, and those that it pushes for what is inside it alone
 pub record Grammar : Type 0 where
   pub rules : ℕ
   pub end : ℕ
   pub winner : FrameData → Bool → ℕ → Bool → Bool → Winner
   pub cost : FrameData → Bool → ℕ → Bool → Bool → ℕ
   pub names : ℕ → Match → List (List ℕ)
+  pub content_names : ℕ → Match → List (List ℕ)
 
 abbrev pub stack_of : Place → List FrameData
 stack_of p = p.top ∷ p.below
@@ -98,10 +99,14 @@ names_made scopes (name ∷ names) =
 abbrev pub state_made : List FrameData → TableEntries
 state_made stack = record { texts = []; paths = []; states = reverse stack ∷ [] }
 
--- the frame of a rule that has just begun
+-- the frame of a rule that has just begun: the scopes of its begin and end, and those of what is inside it
+abbrev pub framed : ℕ → List (List ℕ) → List (List ℕ) → Bool → FrameData
+framed rule names contents at_eol =
+    record { rule = rule; end = None; names = names; contents = contents; at_eol = at_eol }
+
+-- the same where what is inside has no names of its own
 abbrev pub opened : ℕ → List (List ℕ) → Bool → FrameData
-opened rule scopes at_eol =
-    record { rule = rule; end = None; names = scopes; contents = scopes; at_eol = at_eol }
+opened rule scopes at_eol = framed rule scopes scopes at_eol
 
 -- the same frame, with its name scopes as content scopes
 abbrev pub closing : FrameData → FrameData
@@ -167,18 +172,27 @@ ended end p m (next ∷ rest) =
     else GoesOn (adds (paints p.top.contents p.top.names m) none_made)
     (onward p m next rest (left_entries p.entries) (anchor_before p.entries))
 
--- A rule begins: it is open from here on, with its names pushed onto the content scopes, and the anchor is where
--- the begin ends. A begin that has not advanced, of a rule that was opened at this position already, is stuck: the
--- line stops without it.
-abbrev pub begun : ℕ → Place → ℕ → Match → List (List ℕ) → Turn
-begun end p rule m names =
+-- how many rules may be open
+abbrev pub most_open : ℕ
+most_open = 512
+
+-- A rule is open from here on, with its names pushed onto the content scopes, and inside it its content names too. The
+-- anchor is where the begin ends. A begin that has not advanced, of a rule that was opened at this position already, is
+-- stuck: the line stops without it.
+abbrev pub entered : ℕ → Place → ℕ → Match → List (List ℕ) → List (List ℕ) → Turn
+entered end p rule m names content_names =
     let scopes = p.top.contents ++ names in
-    let frame = opened rule scopes (m.end == end) in
+    let frame = framed rule scopes (scopes ++ content_names) (m.end == end) in
     let made = names_made p.top.contents names in
     if not (advances p m) && has (near p.at p.entries) rule
     then Stops (adds (paints p.top.contents scopes m ++ piece end p.top.contents ∷ []) made) (stack_of p)
-    else GoesOn (adds (paints p.top.contents scopes m) (more_made made (state_made (frame ∷ stack_of p))))
+    else GoesOn (adds (paints p.top.contents scopes m) (more_made made (more_made (names_made scopes content_names) (state_made (frame ∷ stack_of p)))))
     (onward p m frame (stack_of p) (record { rule = rule; at = p.at; anchor = p.anchor } ∷ p.entries) (Some m.end))
+
+-- A rule begins. Where as many are open as may be, the line stops without it.
+abbrev pub begun : ℕ → Place → ℕ → Match → List (List ℕ) → List (List ℕ) → Turn
+begun end p rule m names content_names =
+    if nat_lt (length (stack_of p)) most_open then entered end p rule m names content_names else rests end p
 
 -- the open rules without the innermost, if there is one around it
 abbrev pub popped : FrameData → List FrameData → List FrameData
@@ -223,7 +237,7 @@ module _ (g : Grammar) where
   abbrev pub by_winner : Place → Winner → Turn
   by_winner p Nothing = rests g.end p
   by_winner p (Ends m) = ended g.end p m p.below
-  by_winner p (Begins rule m) = begun g.end p rule m (g.names rule m)
+  by_winner p (Begins rule m) = begun g.end p rule m (g.names rule m) (g.content_names rule m)
   by_winner p (Matches rule m) = matched g.end p m (g.names rule m)
 
   -- one turn at a place

@@ -1,0 +1,12 @@
+use Rattle.std.proofs.Common.{◌≡◌, ◌<◌, ◌+◌, ◌-◌, length}
+use Rattle.tm_defs.specs.Tables.{state_at}
+use Rattle.tm_line_run.specs.LineRun.{most_open}
+use Rattle.tm_line.proofs.begin.is_full.Given as goal
+
+abbrev pub invariant-loop-below : goal.invariant-loop-below
+invariant-loop-below g l =
+    let t = g.S.States.tables l.table in
+    (l.outer.0 < length t.states) × (length (state_at t l.fn.state) ≡ l.open + length (state_at t l.outer)) × (l.open < most_open)
+
+abbrev pub decreases-loop-below : goal.decreases-loop-below
+decreases-loop-below g l = most_open - l.open
