@@ -313,32 +313,28 @@ fn line_from<S: States, L: Ledger>(
     setting.line(table, start, line, 1_000_000, steps)
 }
 
-/// The tokens of lines that `|` parts.
-fn tokens_of<L: Ledger>(
+/// The tokens of lines that `|` parts, with a counter of the lines.
+fn counted_tokens<L: Ledger>(
     alloc: Global,
-    opened: &[Opened],
-    lines: &str,
+    setting: &Setting,
+    lines: &String,
     blank: Blank,
 ) -> Result<String, Fail>
     requires name { blank.name ≡ L.name }
     requires parts { blank.parts ≡ L.parts }
     requires some { 0 < blank.parts }
 {
-    let Ok(setting) = Setting::build(alloc, name_of(alloc, "source.t")?, rules_of(alloc, opened)?)
-    else {
-        return Ok(String::from_str(alloc, "no setting")?);
-    };
     let mut table = Numbering::new(alloc, 10_000);
     let mut steps: Steps<L> = Steps::new(blank);
     let mut text = String::new(alloc);
     let mut state = StateId(0);
     table.known();
-    for line in lines.split('|') {
+    for line in lines.as_str().split('|') {
         let chars: Vec<char> = line.chars().collect(alloc)?;
         if chars.len() > 1_000 {
             return Ok(String::from_str(alloc, "a long line")?);
         }
-        match line_from(&setting, &mut table, state, &Line::new(chars), &mut steps) {
+        match line_from(setting, &mut table, state, &Line::new(chars), &mut steps) {
             Ok(out) => {
                 text.push_str(" |")?;
                 push_tokens(alloc, &mut text, out.tokens.as_slice())?;
@@ -348,6 +344,30 @@ fn tokens_of<L: Ledger>(
         }
     }
     Ok(text)
+}
+
+fn setting_of(alloc: Global, opened: &[Opened]) -> Result<Setting, Fail> {
+    let scope = name_of(alloc, "source.t")?;
+    Ok(Setting::build(alloc, scope, rules_of(alloc, opened)?)?)
+}
+
+fn tokens_of(alloc: Global, setting: &Setting, lines: &String) -> Result<String, Fail> {
+    counted_tokens::<Brand>(alloc, setting, lines, Blank::new(1))
+}
+
+/// Whether lines that `|` parts have these tokens.
+fn gives_lines(
+    rt: &impl Abort,
+    alloc: Global,
+    opened: &[Opened],
+    lines: &str,
+    tokens: &str,
+) -> Result<(), Fail> {
+    let setting = setting_of(alloc, opened)?;
+    let lines = String::from_str(alloc, lines)?;
+    let got = tokens_of(alloc, &setting, &lines)?;
+    assert_eq!(rt; got.as_str(), tokens, "{lines}");
+    Ok(())
 }
 
 /// Rules, lines and tokens: of the rules that were opened at a position none is opened there again.
@@ -365,11 +385,7 @@ fn rules_inside_themselves(rt: HostRuntime) -> Result<(), Fail> {
         (&[BRACKET], "(()())x|((|)))", " | 0c 6o | 0c | 0c 2o"),
     ];
     for (opened, lines, tokens) in rows {
-        assert_eq!(rt;
-            tokens_of::<Brand>(alloc, opened, lines, Blank::new(1))?.as_str(),
-            tokens,
-            "{lines}"
-        );
+        gives_lines(&rt, alloc, opened, lines, tokens)?;
     }
     Ok(())
 }
@@ -387,9 +403,5 @@ fn rules_are_open_up_to_their_limit(rt: HostRuntime) -> Result<(), Fail> {
         lines.push(')')?;
     }
     lines.push('x')?;
-    assert_eq!(rt;
-        tokens_of::<Brand>(alloc, &[BRACKET], lines.as_str(), Blank::new(1))?.as_str(),
-        " | 0c | 0c 511o"
-    );
-    Ok(())
+    gives_lines(&rt, alloc, &[BRACKET], lines.as_str(), " | 0c | 0c 511o")
 }
