@@ -1,5 +1,5 @@
 -- A line is painted to the text's end.
-use Rattle.std.proofs.Common.{ℕ, zero, suc, ◌<◌, ◌≤◌, not, nat_lt, length, List, [], ◌∷◌, ◌++◌, arith}
+use Rattle.std.proofs.Common.{ℕ, Option, zero, suc, ◌<◌, ◌≤◌, not, nat_lt, length, List, [], ◌∷◌, ◌++◌, arith}
 use Rattle.std.specs.Prelude.{⊤, ◌&&◌}
 use Rattle.tm_defs.specs.declared.frames.FrameData.{FrameData}
 use Rattle.tm_line_run.specs.LineRun.{Place, Piece, Match, Winner, Nothing, Ends, Begins, Matches, Outcome, Turn, Stops, GoesOn, Grammar, is_entered, near, has, advances, piece, paints, popped_contents, stack_of, most_open, ended, begun, matched, by_winner, asked, paid, turn, after, runs, left, line_run}
@@ -24,8 +24,8 @@ module _ (meta : List (List ℕ) → ℕ) (g : Grammar) where
   ended-reach p m [] = omega arith
   ended-reach p m (next ∷ rest) = both Reaches (not (advances p m) && is_entered p.at p.entries) _ _ (λ _. last-reach (paints p.top.contents p.top.names m) p.top.names) (λ _. tt)
 
-  begun-reach : (p : Place) (rule : ℕ) (m : Match) (names content_names : List (List ℕ)) → Reaches (begun g.end p rule m names content_names)
-  begun-reach p rule m names content_names = both Reaches (nat_lt (length (stack_of p)) most_open) _ _
+  begun-reach : (p : Place) (rule : ℕ) (m : Match) (end_text : Option (List ℕ)) (names content_names : List (List ℕ)) → Reaches (begun g.end p rule m end_text names content_names)
+  begun-reach p rule m end_text names content_names = both Reaches (nat_lt (length (stack_of p)) most_open) _ _
       (λ _. both Reaches (not (advances p m) && has (near p.at p.entries) rule) _ _ (λ _. last-reach (paints p.top.contents (p.top.contents ++ names) m) p.top.contents) (λ _. tt))
       (λ _. omega arith)
 
@@ -35,7 +35,7 @@ module _ (meta : List (List ℕ) → ℕ) (g : Grammar) where
   by_winner-reach : (p : Place) (w : Winner) → Reaches (by_winner g p w)
   by_winner-reach p Nothing = omega arith
   by_winner-reach p (Ends m) = ended-reach p m p.below
-  by_winner-reach p (Begins rule m) = begun-reach p rule m (g.names rule m) (g.content_names rule m)
+  by_winner-reach p (Begins rule m) = begun-reach p rule m (g.end_text rule m) (g.names rule m) (g.content_names rule m)
   by_winner-reach p (Matches rule m) = matched-reach p m (g.names rule m)
 
   paid-reach : (steps : ℕ) (t : Turn) → Reaches t → Reaches (paid steps t)

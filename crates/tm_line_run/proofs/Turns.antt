@@ -5,7 +5,7 @@ use Rattle.std.specs.Prelude.{◌&&◌, ◌||◌, ◌==◌, ⊤}
 use Rattle.std.proofs.Math.Nat.{mul-le-mul_left}
 use Rattle.std.proofs.lemmas.Bool.Decides.{nat_tests}
 use Rattle.tm_defs.specs.declared.frames.FrameData.{FrameData}
-use Rattle.tm_line_run.specs.LineRun.{Entry, Place, Match, Winner, Nothing, Ends, Begins, Matches, Outcome, Turn, Stops, GoesOn, Grammar, is_entered, near, has, left_entries, anchor_before, stack_of, joined, opened, advances, onward, most_open, ended, entered, begun, matched, by_winner, asked, paid, turn, after, runs, unused, left, line_run}
+use Rattle.tm_line_run.specs.LineRun.{Entry, Place, Match, Winner, Nothing, Ends, Begins, Matches, Outcome, Turn, Stops, GoesOn, Grammar, is_entered, near, has, left_entries, anchor_before, stack_of, joined, advances, onward, most_open, ended, entered, begun, matched, by_winner, asked, paid, turn, after, runs, unused, left, line_run}
 use Rattle.tm_line_run.specs.Laws.{IsWinnerWithin, FindsWithin, IsLineRun}
 
 -- either side of a choice
@@ -126,13 +126,13 @@ module _ (g : Grammar) where
       let fewer : unused (near p.at (entry ∷ p.entries)) g.rules < unused (near p.at p.entries) g.rules = rw one (unused-less rule (near p.at p.entries) g.rules new known) in
       omega arith
 
-  entered-falls : (p : Place) (rule : ℕ) (m : Match) (names content_names : List (List ℕ)) → m.end ≤ g.end → rule < g.rules → Falls p (entered g.end p rule m names content_names)
-  entered-falls p rule m names content_names within known = both (Falls p) (not (advances p m) && has (near p.at p.entries) rule) _ _ (λ _. tt) (λ free.
+  entered-falls : (p : Place) (rule : ℕ) (m : Match) (end_text : Option (List ℕ)) (names content_names : List (List ℕ)) → m.end ≤ g.end → rule < g.rules → Falls p (entered g.end p rule m end_text names content_names)
+  entered-falls p rule m end_text names content_names within known = both (Falls p) (not (advances p m) && has (near p.at p.entries) rule) _ _ (λ _. tt) (λ free.
       onward-falls p m _ (stack_of p) _ (Some m.end) within (omega arith) (λ stays.
       pushed-falls p rule p.anchor known (ap (λ b. not b && has (near p.at p.entries) rule) (sym stays) ∙ free)))
 
-  begun-falls : (p : Place) (rule : ℕ) (m : Match) (names content_names : List (List ℕ)) → m.end ≤ g.end → rule < g.rules → Falls p (begun g.end p rule m names content_names)
-  begun-falls p rule m names content_names within known = both (Falls p) (nat_lt (length (stack_of p)) most_open) _ _ (λ _. entered-falls p rule m names content_names within known) (λ _. tt)
+  begun-falls : (p : Place) (rule : ℕ) (m : Match) (end_text : Option (List ℕ)) (names content_names : List (List ℕ)) → m.end ≤ g.end → rule < g.rules → Falls p (begun g.end p rule m end_text names content_names)
+  begun-falls p rule m end_text names content_names within known = both (Falls p) (nat_lt (length (stack_of p)) most_open) _ _ (λ _. entered-falls p rule m end_text names content_names within known) (λ _. tt)
 
   matched-falls : (p : Place) (m : Match) (names : List (List ℕ)) → m.end ≤ g.end → Falls p (matched g.end p m names)
   matched-falls p m names within = both (Falls p) (advances p m) _ _ (λ so.
@@ -141,7 +141,7 @@ module _ (g : Grammar) where
   by_winner-falls : (p : Place) (w : Winner) → IsWinnerWithin g.rules g.end w → Falls p (by_winner g p w)
   by_winner-falls p Nothing h = tt
   by_winner-falls p (Ends m) h = ended-falls p m p.below refl h
-  by_winner-falls p (Begins rule m) h = begun-falls p rule m (g.names rule m) (g.content_names rule m) h.0 h.1
+  by_winner-falls p (Begins rule m) h = begun-falls p rule m (g.end_text rule m) (g.names rule m) (g.content_names rule m) h.0 h.1
   by_winner-falls p (Matches rule m) h = matched-falls p m (g.names rule m) h
 
   ended-within : (p : Place) (m : Match) (below : List FrameData) → p.at ≤ g.end → m.end ≤ g.end → IsWithin g.end (ended g.end p m below)

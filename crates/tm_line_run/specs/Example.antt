@@ -1,8 +1,8 @@
 -- A worked line: `let (x` under a grammar in which `let` is a keyword (rule 1) and `(` begins a group
 -- (rule 2).
-use Rattle.std.specs.Prelude.{ℕ, zero, suc, true, false, List, [], ◌∷◌, None}
+use Rattle.std.specs.Prelude.{ℕ, zero, suc, true, false, List, [], ◌∷◌, Some, None}
 use Rattle.tm_defs.specs.declared.tokens.Token.{Token}
-use Rattle.tm_line_run.specs.LineRun.{Place, Winner, Nothing, Begins, Matches, Grammar, opened}
+use Rattle.tm_line_run.specs.LineRun.{Place, Match, Winner, Nothing, Begins, Matches, Grammar, opened}
 
 -- the names `r`, `k` and `g` stand for root, keyword and group
 abbrev pub root : List ℕ
@@ -14,11 +14,14 @@ keyword = 107 ∷ []
 abbrev pub group : List ℕ
 group = 103 ∷ []
 
+abbrev pub found_from : ℕ → ℕ → Match
+found_from start end = record { start = start; end = end; groups = Some (start, end) ∷ [] }
+
 -- inside the root the keyword is found at 0 to 3, and behind it the group's begin at 4 to 5; inside
 -- the group nothing is found
 abbrev pub found : ℕ → ℕ → Winner
-found zero zero = Matches 1 (record { start = 0; end = 3 })
-found zero (suc at) = Begins 2 (record { start = 4; end = 5 })
+found zero zero = Matches 1 (found_from 0 3)
+found zero (suc at) = Begins 2 (found_from 4 5)
 found (suc rule) at = Nothing
 
 abbrev pub names : ℕ → List (List ℕ)
@@ -35,6 +38,7 @@ example = record {
   cost = λ frame has_end at first anchored. 10;
   names = λ rule m. names rule;
   content_names = λ rule m. [];
+  end_text = λ rule m. None;
 }
 
 abbrev pub start : Place

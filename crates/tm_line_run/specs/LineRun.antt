@@ -2,7 +2,7 @@
 -- After vscode-textmate's tokenizer of one line, which goes on from turn to turn.
 use Rattle.std.specs.Prelude.{ℕ, zero, suc, ◌+◌, ◌-◌, ◌*◌, ◌==◌, ◌&&◌, ◌||◌, not, nat_lt, max, Bool, true, false, List, [], ◌∷◌, ◌++◌, length, reverse, Option, Some, None, if◌then◌else◌}
 use Rattle.tm_defs.specs.declared.frames.FrameData.{FrameData}
-use Rattle.tm_defs.specs.Tables.{TableEntries, none_made, more_made}
+use Rattle.tm_defs.specs.Tables.{TableEntries, none_made, more_made, only_text}
 
 -- a rule that this line opened, and with it the position and the anchor of then
 pub record Entry : Type 0 where
@@ -42,9 +42,11 @@ pub data Turn : Type 0 where
   Stops : Part → List FrameData → Turn
   GoesOn : Part → Place → Turn
 
+-- what was found: where it starts and ends, and start and end of each group that is set, the whole match first
 pub record Match : Type 0 where
   pub start : ℕ
   pub end : ℕ
+  pub groups : List (Option (ℕ × ℕ))
 
 -- what is found first: nothing, the end of the innermost rule, the begin of a rule, or the match of a rule
 pub data Winner : Type 0 where
@@ -56,7 +58,8 @@ pub data Winner : Type 0 where
 -- what the rules say of one text: how many there are; its length with the line break; what is found from a
 -- position on by the innermost rule, whose end counts where the first Bool says that a rule is open around it,
 -- where `\A` matches where the second says so, and `\G` where the third does; the steps of that search; the names
--- that a found rule pushes, and those that it pushes for what is inside it alone
+-- that a found rule pushes, and those that it pushes for what is inside it alone; and the text that ends it, where that
+-- depends on what its begin captured
 pub record Grammar : Type 0 where
   pub rules : ℕ
   pub end : ℕ
@@ -64,6 +67,7 @@ pub record Grammar : Type 0 where
   pub cost : FrameData → Bool → ℕ → Bool → Bool → ℕ
   pub names : ℕ → Match → List (List ℕ)
   pub content_names : ℕ → Match → List (List ℕ)
+  pub end_text : ℕ → Match → Option (List ℕ)
 
 abbrev pub stack_of : Place → List FrameData
 stack_of p = p.top ∷ p.below
@@ -99,14 +103,20 @@ names_made scopes (name ∷ names) =
 abbrev pub state_made : List FrameData → TableEntries
 state_made stack = record { texts = []; paths = []; states = reverse stack ∷ [] }
 
--- the frame of a rule that has just begun: the scopes of its begin and end, and those of what is inside it
-abbrev pub framed : ℕ → List (List ℕ) → List (List ℕ) → Bool → FrameData
-framed rule names contents at_eol =
-    record { rule = rule; end = None; names = names; contents = contents; at_eol = at_eol }
+-- a text that ends a rule, if it has one of its own
+abbrev pub end_made : Option (List ℕ) → TableEntries
+end_made None = none_made
+end_made (Some text) = only_text text
 
--- the same where what is inside has no names of its own
+-- the frame of a rule that has just begun: the text that ends it, if it has one of its own, the scopes of its begin and
+-- end, and those of what is inside it
+abbrev pub framed : ℕ → Option (List ℕ) → List (List ℕ) → List (List ℕ) → Bool → FrameData
+framed rule end names contents at_eol =
+    record { rule = rule; end = end; names = names; contents = contents; at_eol = at_eol }
+
+-- the same where it has none, and what is inside has no names of its own
 abbrev pub opened : ℕ → List (List ℕ) → Bool → FrameData
-opened rule scopes at_eol = framed rule scopes scopes at_eol
+opened rule scopes at_eol = framed rule None scopes scopes at_eol
 
 -- the same frame, with its name scopes as content scopes
 abbrev pub closing : FrameData → FrameData
@@ -179,20 +189,20 @@ most_open = 512
 -- A rule is open from here on, with its names pushed onto the content scopes, and inside it its content names too. The
 -- anchor is where the begin ends. A begin that has not advanced, of a rule that was opened at this position already, is
 -- stuck: the line stops without it.
-abbrev pub entered : ℕ → Place → ℕ → Match → List (List ℕ) → List (List ℕ) → Turn
-entered end p rule m names content_names =
+abbrev pub entered : ℕ → Place → ℕ → Match → Option (List ℕ) → List (List ℕ) → List (List ℕ) → Turn
+entered end p rule m end_text names content_names =
     let scopes = p.top.contents ++ names in
-    let frame = framed rule scopes (scopes ++ content_names) (m.end == end) in
+    let frame = framed rule end_text scopes (scopes ++ content_names) (m.end == end) in
     let made = names_made p.top.contents names in
     if not (advances p m) && has (near p.at p.entries) rule
     then Stops (adds (paints p.top.contents scopes m ++ piece end p.top.contents ∷ []) made) (stack_of p)
-    else GoesOn (adds (paints p.top.contents scopes m) (more_made made (more_made (names_made scopes content_names) (state_made (frame ∷ stack_of p)))))
+    else GoesOn (adds (paints p.top.contents scopes m) (more_made made (more_made (names_made scopes content_names) (more_made (end_made end_text) (state_made (frame ∷ stack_of p))))))
     (onward p m frame (stack_of p) (record { rule = rule; at = p.at; anchor = p.anchor } ∷ p.entries) (Some m.end))
 
 -- A rule begins. Where as many are open as may be, the line stops without it.
-abbrev pub begun : ℕ → Place → ℕ → Match → List (List ℕ) → List (List ℕ) → Turn
-begun end p rule m names content_names =
-    if nat_lt (length (stack_of p)) most_open then entered end p rule m names content_names else rests end p
+abbrev pub begun : ℕ → Place → ℕ → Match → Option (List ℕ) → List (List ℕ) → List (List ℕ) → Turn
+begun end p rule m end_text names content_names =
+    if nat_lt (length (stack_of p)) most_open then entered end p rule m end_text names content_names else rests end p
 
 -- the open rules without the innermost, if there is one around it
 abbrev pub popped : FrameData → List FrameData → List FrameData
@@ -237,7 +247,7 @@ module _ (g : Grammar) where
   abbrev pub by_winner : Place → Winner → Turn
   by_winner p Nothing = rests g.end p
   by_winner p (Ends m) = ended g.end p m p.below
-  by_winner p (Begins rule m) = begun g.end p rule m (g.names rule m) (g.content_names rule m)
+  by_winner p (Begins rule m) = begun g.end p rule m (g.end_text rule m) (g.names rule m) (g.content_names rule m)
   by_winner p (Matches rule m) = matched g.end p m (g.names rule m)
 
   -- one turn at a place
