@@ -1,118 +1,202 @@
 -- A good run is done.
-use Rattle.std.proofs.Common.{◌≡◌, ℕ, List, Option, Some, None, Bool, true, false, ap, ◌∙◌, sym, subst}
-use Rattle.tm_app.specs.declared.status.What.TheVariants.{NotYet, BadPlace}
+use Rattle.std.proofs.Common.{◌≡◌, ℕ, ◌<◌, ◌≤◌, List, [], ◌∷◌, ◌++◌, length, Option, Some, None, Bool, true, false, Result, Ok as Good, Err, arith, refl, ap, ◌∙◌, sym, subst}
+use Rattle.tm_app.specs.declared.status.What.TheVariants.{NotJson, BadShape, NotYet, TooManyRules, BadPlace}
 use Rattle.tm_app.specs.declared.status.Status.{Status}
 use Rattle.tm_app.specs.declared.status.Status.TheVariants.{Ok, Usage, FileFault, Refused, SinkFault, OutOfMemory, BudgetSeen, TableFull}
-use Rattle.tm_app.specs.Told.{Told}
+use Rattle.tm_app.specs.Told.{Told, IsTold, where_told, always_told}
 use Rattle.tm_line.specs.Setting.{Setting}
-use Rattle.tm_forms.specs.Settings.{SettingsData, settings_in}
+use Rattle.tm_grammar.specs.File.{GrammarTree}
+use Rattle.tm_forms.specs.declared.form.Refusal.{Refusal}
+use Rattle.tm_forms.specs.Settings.{SettingFilesData, SettingsData, settings_in}
 use Rattle.tm_forms.specs.Grammar.{grammar_in}
-use Rattle.tm_forms.specs.Script.{script_in}
-use Rattle.tm_forms.specs.Text.{text_in}
 use Rattle.tm_forms.specs.declared.script.Scripted.{Scripted}
+use Rattle.tm_rules.specs.Sizes.{rule_limit}
 use Rattle.tm_app.specs.declared.play.Fault.{Fault}
 use Rattle.tm_app.specs.declared.play.Fault.TheVariants as fault
-use Rattle.tm_app.specs.Setup.{SetupData}
-use Rattle.tm_app.specs.Reading.{Names, words_of, IsCommand, Part, the_settings, the_grammar, the_text, the_script, IsOutside, IsReached, IsLoaded, GivesSettings, GivesGrammar, GivesScript}
-use Rattle.tm_app.specs.Outcome.{Outcome, SetupPlays, SetupStops, IsDone}
-use Rattle.tm_app.specs.Complete.{Says, SaysScript, IsGood, Completes}
+use Rattle.tm_app.specs.Command.{Names, Command, Lint, Run, IsCommand, settings_named}
+use Rattle.tm_app.specs.Given.{rules_in, setting_in, grammar_files, AllGiven, IsSettingGiven, AreGiven, AreLoaded}
+use Rattle.tm_app.specs.Setup.{SetupData, Work, Linted, Played}
+use Rattle.tm_app.specs.Reading.{Part, the_settings, the_grammar, the_text, the_script, Refuses, text_form, script_form, IsReached, HasManyRules, IsLoaded, IsSetupLoaded, GivesSettings, GivesScript}
+use Rattle.tm_app.specs.Outcome.{Outcome, WorkDone, WorkStops, IsDone}
+use Rattle.tm_app.specs.Complete.{IsGood, Completes}
+use Rattle.tm_app.proofs.Commands.{one-command}
 
 -- what a told file says is one thing
-one-saying : {X : Type 0} (told : Option (List ℕ)) (form : List ℕ → Option X) (x y : X) → Says told form x → Told told (λ bytes. form bytes ≡ Some y) → x ≡ y
-one-saying told form x y s h =
-    let Q : Option (List ℕ) → Type 0 = λ o. Told o (λ bytes. form bytes ≡ Some y) in
-    let k : form s.0 ≡ Some y = subst Q s.1 h in
-    let e : Some x ≡ Some y = sym s.2 ∙ k in cc
+one-saying : {X : Type 0} (told : Option (List ℕ)) (form : List ℕ → Result X Refusal) (x y : X) → IsTold told (λ bytes. form bytes ≡ Good x) → Told told (λ bytes. form bytes ≡ Good y) → x ≡ y
+one-saying None form x y s h = absurd s
+one-saying (Some bytes) form x y s h = let e : Good {E = Refusal} x ≡ Good y = sym s ∙ h in cc
 
-not-outside : {X : Type 0} (told : Option (List ℕ)) (form : List ℕ → Option X) (x : X) → Says told form x → Told told (λ bytes. form bytes ≡ None) → ⊥
-not-outside told form x s h =
-    let Q : Option (List ℕ) → Type 0 = λ o. Told o (λ bytes. form bytes ≡ None) in
-    let k : form s.0 ≡ None = subst Q s.1 h in
-    let e : Some x ≡ None = sym s.2 ∙ k in cc
+not-refused : {X : Type 0} (told : Option (List ℕ)) (form : List ℕ → Result X Refusal) (x : X) (cause : Refusal) → IsTold told (λ bytes. form bytes ≡ Good x) → Told told (λ bytes. form bytes ≡ Err cause) → ⊥
+not-refused None form x cause s h = s
+not-refused (Some bytes) form x cause s h = let e : Good x ≡ Err cause = sym s ∙ h in cc
 
-abbrev mk-names : List ℕ → List ℕ → Option (List ℕ) → Names
-mk-names s t c = record { settings = s; text = t; script = c }
+abbrev mk-setup : ℕ → List Setting → List ℕ → List Scripted → SetupData
+mk-setup b g t s = record { budget = b; settings = g; text = t; script = s }
 
-names-same : (m n : Names) → m.settings ≡ n.settings → m.text ≡ n.text → m.script ≡ n.script → m ≡ n
-names-same m n a b c = ap (λ s. mk-names s m.text m.script) a ∙ ap (λ t. mk-names n.settings t m.script) b ∙ ap (λ z. mk-names n.settings n.text z) c
+setup-same : (m n : SetupData) → m.budget ≡ n.budget → m.settings ≡ n.settings → m.text ≡ n.text → m.script ≡ n.script → m ≡ n
+setup-same m n d a b c = ap (λ z. mk-setup z m.settings m.text m.script) d ∙ ap (λ g. mk-setup n.budget g m.text m.script) a ∙ ap (λ t. mk-setup n.budget n.settings t m.script) b ∙ ap (λ z. mk-setup n.budget n.settings n.text z) c
 
--- words are those of one command
-one-words : (s s2 t t2 : List ℕ) (c c2 : Option (List ℕ)) → words_of s t c ≡ words_of s2 t2 c2 → (s ≡ s2) × (t ≡ t2) × (c ≡ c2)
-one-words s s2 t t2 None None e = (cc, cc, cc)
-one-words s s2 t t2 None (Some c2) e = absurd cc
-one-words s s2 t t2 (Some c) None e = absurd cc
-one-words s s2 t t2 (Some c) (Some c2) e = (cc, cc, let same : c ≡ c2 = cc in ap Some same)
+module _ (tells : List ℕ → Option (List ℕ)) where
+  one-trees : (files : List (List ℕ)) (a b : List GrammarTree) → AllGiven (always_told tells) files a → AllGiven (where_told tells) files b → a ≡ b
+  one-trees [] [] [] g h = refl
+  one-trees (f ∷ files) (x ∷ a) (y ∷ b) g h = ap (λ t. t ∷ a) (one-saying (tells f) grammar_in x y g.0 h.0) ∙ ap (λ l. y ∷ l) (one-trees files a b g.1 h.1)
+  one-trees [] (x ∷ a) b g h = absurd g
+  one-trees [] [] (y ∷ b) g h = absurd h
+  one-trees (f ∷ files) [] b g h = absurd g
+  one-trees (f ∷ files) (x ∷ a) [] g h = absurd h
 
-one-command : (words : List (List ℕ)) (m n : Names) → IsCommand words m → IsCommand words n → m ≡ n
-one-command words m n h k = let e = one-words m.settings n.settings m.text n.text m.script n.script (sym h ∙ k) in names-same m n e.0 e.1 e.2
+  one-setting : (files : SettingFilesData) (a b : Setting) → IsSettingGiven (always_told tells) files a → IsSettingGiven (where_told tells) files b → a ≡ b
+  one-setting files a b g h =
+      let e = one-trees (grammar_files files) (g.root ∷ g.more) (h.root ∷ h.more) g.given h.given in
+      let root : g.root ≡ h.root = cc in
+      let more : g.more ≡ h.more = cc in
+      g.is ∙ ap (λ r. setting_in r g.more) root ∙ ap (λ m. setting_in h.root m) more ∙ sym h.is
 
-abbrev mk-setup : ℕ → Setting → List ℕ → List Scripted → SetupData
-mk-setup b g t s = record { budget = b; grammar = g; text = t; script = s }
+  one-settings : (list : List SettingFilesData) (a b : List Setting) → AreGiven (always_told tells) list a → AreGiven (where_told tells) list b → a ≡ b
+  one-settings [] [] [] g h = refl
+  one-settings (f ∷ list) (x ∷ a) (y ∷ b) g h = ap (λ t. t ∷ a) (one-setting f x y g.0 h.0) ∙ ap (λ l. y ∷ l) (one-settings list a b g.1 h.1)
+  one-settings [] (x ∷ a) b g h = absurd g
+  one-settings [] [] (y ∷ b) g h = absurd h
+  one-settings (f ∷ list) [] b g h = absurd g
+  one-settings (f ∷ list) (x ∷ a) [] g h = absurd h
 
-setup-same : (m n : SetupData) → m.budget ≡ n.budget → m.grammar ≡ n.grammar → m.text ≡ n.text → m.script ≡ n.script → m ≡ n
-setup-same m n d a b c = ap (λ z. mk-setup z m.grammar m.text m.script) d ∙ ap (λ g. mk-setup n.budget g m.text m.script) a ∙ ap (λ t. mk-setup n.budget n.grammar t m.script) b ∙ ap (λ z. mk-setup n.budget n.grammar n.text z) c
+  one-loaded : (file : List ℕ) (m n : ℕ) (a b : List Setting) → AreLoaded (always_told tells) file m a → AreLoaded (where_told tells) file n b → (m ≡ n) × (a ≡ b)
+  one-loaded file m n a b g h =
+      let e = one-saying (tells file) settings_in g.0 h.0 g.1 h.1 in
+      let P : SettingsData → Type 0 = λ s. AreGiven (where_told tells) s.settings b in
+      (g.2 ∙ ap (λ (s : SettingsData). s.budget) e ∙ sym h.2, one-settings g.0.settings a b g.3 (subst P (sym e) h.3))
 
-one-script : (tells : List ℕ → Option (List ℕ)) (script : Option (List ℕ)) (a b : List Scripted) → SaysScript tells script a → GivesScript tells script b → a ≡ b
-one-script tells None a b h k = h ∙ sym k
-one-script tells (Some file) a b h k = one-saying (tells file) script_in a b h k
+  one-script : (script : Option (List ℕ)) (a b : List Scripted) → GivesScript (always_told tells) script a → GivesScript (where_told tells) script b → a ≡ b
+  one-script None a b h k = h ∙ sym k
+  one-script (Some file) a b h k = one-saying (tells file) script_form a b h k
 
-script-refused : (tells : List ℕ → Option (List ℕ)) (script : Option (List ℕ)) (file : List ℕ) (steps : List Scripted) → SaysScript tells script steps → Some file ≡ script → Told (tells file) (λ bytes. script_in bytes ≡ None) → ⊥
-script-refused tells None file steps h is k = absurd cc
-script-refused tells (Some name) file steps h is k =
-    let same : file ≡ name = cc in
-    let Q : List ℕ → Type 0 = λ f. Told (tells f) (λ bytes. script_in bytes ≡ None) in
-    not-outside (tells name) script_in steps h (subst Q same k)
+  one-setup : (names : Names) (a b : SetupData) → IsSetupLoaded (always_told tells) names a → IsSetupLoaded (where_told tells) names b → a ≡ b
+  one-setup names a b g h =
+      let s = one-loaded names.settings a.budget b.budget a.settings b.settings g.settings h.settings in
+      setup-same a b s.0 s.1 (one-saying (tells names.text) text_form a.text b.text g.text h.text) (one-script names.script a.script b.script g.script h.script)
+
+  one-work : (command : Command) (a b : Work) → IsLoaded (always_told tells) command a → IsLoaded (where_told tells) command b → a ≡ b
+  one-work (Lint file) (Linted a) (Linted b) g h = ap Linted (one-loaded file g.0 h.0 a b g.1 h.1).1
+  one-work (Run names) (Played a) (Played b) g h = ap Played (one-setup names a b g h)
+  one-work (Lint file) (Played a) b g h = absurd g
+  one-work (Lint file) (Linted a) (Played b) g h = absurd h
+  one-work (Run names) (Linted a) b g h = absurd g
+  one-work (Run names) (Played a) (Linted b) g h = absurd h
+
+  -- a file and a setting among those that are given
+  pick-tree : (front rest : List (List ℕ)) (file : List ℕ) (trees : List GrammarTree) → AllGiven (always_told tells) (front ++ file ∷ rest) trees → (tree : GrammarTree) × always_told tells file (λ bytes. grammar_in bytes ≡ Good tree)
+  pick-tree [] rest file [] g = absurd g
+  pick-tree [] rest file (t ∷ trees) g = (t, g.0)
+  pick-tree (f ∷ front) rest file [] g = absurd g
+  pick-tree (f ∷ front) rest file (t ∷ trees) g = pick-tree front rest file trees g.1
+
+  pick-setting : (front rest : List SettingFilesData) (files : SettingFilesData) (settings : List Setting) → AreGiven (always_told tells) (front ++ files ∷ rest) settings → (setting : Setting) × IsSettingGiven (always_told tells) files setting
+  pick-setting [] rest files [] g = absurd g
+  pick-setting [] rest files (s ∷ settings) g = (s, g.0)
+  pick-setting (f ∷ front) rest files [] g = absurd g
+  pick-setting (f ∷ front) rest files (s ∷ settings) g = pick-setting front rest files settings g.1
+
+  -- the settings of what is loaded
+  loaded-settings : (command : Command) (work : Work) → IsLoaded (always_told tells) command work → (budget : ℕ) × (settings : List Setting) × AreLoaded (always_told tells) (settings_named command) budget settings
+  loaded-settings (Lint file) (Linted settings) g = (g.0, settings, g.1)
+  loaded-settings (Run names) (Played setup) g = (setup.budget, setup.settings, g.settings)
+  loaded-settings (Lint file) (Played setup) g = absurd g
+  loaded-settings (Run names) (Linted settings) g = absurd g
+
+  no-settings-refusal : (file : List ℕ) (budget : ℕ) (settings : List Setting) (cause : Refusal) → AreLoaded (always_told tells) file budget settings → Told (tells file) (λ bytes. settings_in bytes ≡ Err cause) → ⊥
+  no-settings-refusal file budget settings cause g h = not-refused (tells file) settings_in g.0 cause g.1 h
+
+  -- a setting that the reading comes to is given
+  setting-given : (file : List ℕ) (budget : ℕ) (settings : List Setting) (says : SettingsData) (front rest : List SettingFilesData) (files : SettingFilesData) → AreLoaded (always_told tells) file budget settings →
+      Told (tells file) (λ bytes. settings_in bytes ≡ Good says) → says.settings ≡ front ++ files ∷ rest → (setting : Setting) × IsSettingGiven (always_told tells) files setting
+  setting-given file budget settings says front rest files g given place =
+      let e = one-saying (tells file) settings_in g.0 says g.1 given in
+      let P : List SettingFilesData → Type 0 = λ l. AreGiven (always_told tells) l settings in
+      pick-setting front rest files settings (subst P (ap (λ (s : SettingsData). s.settings) e ∙ place) g.3)
+
+  module _ (command : Command) (work : Work) (good : IsLoaded (always_told tells) command work) where
+    no-grammar-refusal : (file : List ℕ) (cause : Refusal) → IsReached command tells the_grammar file → Told (tells file) (λ bytes. grammar_in bytes ≡ Err cause) → ⊥
+    no-grammar-refusal file cause r h =
+        let all = loaded-settings command work good in
+        let one = setting-given (settings_named command) all.0 all.1 r.0 r.2.1.front r.2.1.rest r.2.0 all.2 r.1 r.2.1.place in
+        let P : List (List ℕ) → Type 0 = λ l. AllGiven (always_told tells) l (one.1.root ∷ one.1.more) in
+        let tree = pick-tree r.2.2.front r.2.2.rest file (one.1.root ∷ one.1.more) (subst P r.2.2.place one.1.given) in
+        not-refused (tells file) grammar_in tree.0 cause tree.1 h
+
+    no-many : (file : List ℕ) → HasManyRules command tells file → ⊥
+    no-many file r =
+        let all = loaded-settings command work good in
+        let one = setting-given (settings_named command) all.0 all.1 r.0 r.2.1.front r.2.1.rest r.2.0 all.2 r.1 r.2.1.place in
+        let e = one-trees (grammar_files r.2.0) (one.1.root ∷ one.1.more) r.2.2.1.0 one.1.given r.2.2.1.1 in
+        let P : List GrammarTree → Type 0 = λ l. length (rules_in l) ≤ rule_limit in
+        let few : length (rules_in r.2.2.1.0) ≤ rule_limit = subst P e one.1.few in
+        omega (arith, few, r.2.2.1.2)
+
+  no-text-refusal : (command : Command) (work : Work) (file : List ℕ) (cause : Refusal) → IsLoaded (always_told tells) command work → IsReached command tells the_text file → Told (tells file) (λ bytes. text_form bytes ≡ Err cause) → ⊥
+  no-text-refusal (Lint settings) work file cause g r h = absurd r
+  no-text-refusal (Run names) (Linted settings) file cause g r h = absurd g
+  no-text-refusal (Run names) (Played setup) file cause g r h =
+      let Q : List ℕ → Type 0 = λ f. Told (tells f) (λ bytes. text_form bytes ≡ Err cause) in
+      not-refused (tells names.text) text_form setup.text cause g.text (subst Q r.0 h)
+
+  script-refused : (script : Option (List ℕ)) (file : List ℕ) (steps : List Scripted) (cause : Refusal) → GivesScript (always_told tells) script steps → Some file ≡ script → Told (tells file) (λ bytes. script_form bytes ≡ Err cause) → ⊥
+  script-refused None file steps cause h is k = absurd cc
+  script-refused (Some name) file steps cause h is k =
+      let same : file ≡ name = cc in
+      let Q : List ℕ → Type 0 = λ f. Told (tells f) (λ bytes. script_form bytes ≡ Err cause) in
+      not-refused (tells name) script_form steps cause h (subst Q same k)
+
+  no-script-refusal : (command : Command) (work : Work) (file : List ℕ) (cause : Refusal) → IsLoaded (always_told tells) command work → IsReached command tells the_script file → Told (tells file) (λ bytes. script_form bytes ≡ Err cause) → ⊥
+  no-script-refusal (Lint settings) work file cause g r h = absurd r
+  no-script-refusal (Run names) (Linted settings) file cause g r h = absurd g
+  no-script-refusal (Run names) (Played setup) file cause g r h = script-refused names.script file setup.script cause g.script r.0 h
+
+  no-refusal : (command : Command) (work : Work) (part : Part) (file : List ℕ) (cause : Refusal) → IsLoaded (always_told tells) command work → IsReached command tells part file → Told (tells file) (λ bytes. Refuses part bytes cause) → ⊥
+  no-refusal command work the_settings file cause g r h =
+      let Q : List ℕ → Type 0 = λ f. Told (tells f) (λ bytes. settings_in bytes ≡ Err cause) in
+      let all = loaded-settings command work g in
+      no-settings-refusal (settings_named command) all.0 all.1 cause all.2 (subst Q r h)
+  no-refusal command work the_grammar file cause g r h = no-grammar-refusal command work g file cause r h
+  no-refusal command work the_text file cause g r h = no-text-refusal command work file cause g r h
+  no-refusal command work the_script file cause g r h = no-script-refusal command work file cause g r h
 
 module _ (words : List (List ℕ)) (tells : List ℕ → Option (List ℕ)) (failed failed_now : List (List ℕ)) (taken taken_now : Option (List ℕ)) (faults faults_now : ℕ) where
-  module _ (setup : SetupData) (good : IsGood words tells failed failed_now faults faults_now setup) where
-    one-settings : (settings : SettingsData) → GivesSettings good.names tells settings → good.settings ≡ settings
-    one-settings settings h = one-saying (tells good.names.settings) settings_in good.settings settings good.says h
-
-    one-grammar : (settings : SettingsData) (grammar : Setting) → GivesSettings good.names tells settings → GivesGrammar good.names tells settings grammar → setup.grammar ≡ grammar
-    one-grammar settings grammar given h =
-        let e = one-settings settings given in
-        let Q : SettingsData → Type 0 = λ s. Told (tells s.grammar) (λ bytes. grammar_in bytes ≡ Some grammar) in
-        one-saying (tells good.settings.grammar) grammar_in setup.grammar grammar good.grammar (subst Q (sym e) h)
-
-    one-setup : (other : SetupData) → IsLoaded good.names tells other → setup ≡ other
-    one-setup other h =
-        let d = good.budget ∙ ap (λ (s : SettingsData). s.budget) (one-settings h.settings h.given) ∙ sym h.budget in
-        let a = one-grammar h.settings other.grammar h.given h.grammar in
-        let b = one-saying (tells good.names.text) text_in setup.text other.text good.text h.text in
-        let c = one-script tells good.names.script setup.script other.script good.script h.script in
-        setup-same setup other d a b c
-
-    no-refusal : (part : Part) (file : List ℕ) → IsReached good.names tells part file → Told (tells file) (IsOutside part) → ⊥
-    no-refusal the_settings file r h = let Q : List ℕ → Type 0 = λ f. Told (tells f) (λ bytes. settings_in bytes ≡ None) in not-outside (tells good.names.settings) settings_in good.settings good.says (subst Q r h)
-    no-refusal the_grammar file r h =
-        let Q : List ℕ → Type 0 = λ f. Told (tells f) (λ bytes. grammar_in bytes ≡ None) in
-        let e : file ≡ good.settings.grammar = r.2 ∙ sym (ap (λ (s : SettingsData). s.grammar) (one-settings r.0 r.1)) in
-        not-outside (tells good.settings.grammar) grammar_in setup.grammar good.grammar (subst Q e h)
-    no-refusal the_text file r h = let Q : List ℕ → Type 0 = λ f. Told (tells f) (λ bytes. text_in bytes ≡ None) in not-outside (tells good.names.text) text_in setup.text good.text (subst Q r.0 h)
-    no-refusal the_script file r h = script-refused tells good.names.script file setup.script good.script r.0 h
-
+  module _ (work : Work) (good : IsGood words tells failed failed_now faults faults_now work) where
     -- what was loaded is what the files say
-    loaded-as : (names : Names) (other : SetupData) → IsCommand words names → IsLoaded names tells other → setup ≡ other
-    loaded-as names other command loaded =
-        let L : Names → Type 0 = λ m. IsLoaded m tells other in
-        one-setup other (subst L (one-command words names good.names command good.command) loaded)
+    loaded-as : (command : Command) (other : Work) → IsCommand words command → IsLoaded (where_told tells) command other → work ≡ other
+    loaded-as command other is loaded =
+        let L : Command → Type 0 = λ c. IsLoaded (where_told tells) c other in
+        one-work tells good.command work other good.loaded (subst L (one-command words command good.command is good.says) loaded)
 
-    done-so : (seen : Bool) → IsDone words tells failed failed_now taken taken_now faults faults_now seen → SetupPlays setup taken taken_now seen
-    done-so seen h = let P : SetupData → Type 0 = λ s. SetupPlays s taken taken_now seen in subst P (sym (loaded-as h.0 h.2.0 h.1 h.2.1)) h.2.2
+    done-so : (seen : Bool) → IsDone words tells failed failed_now taken taken_now faults faults_now seen → WorkDone work taken taken_now seen
+    done-so seen h = let P : Work → Type 0 = λ w. WorkDone w taken taken_now seen in subst P (sym (loaded-as h.0 h.2.0 h.1 h.2.1)) h.2.2
 
-    stops-so : (names : Names) (other : SetupData) (f : Fault) → IsCommand words names → IsLoaded names tells other → SetupStops other taken taken_now faults faults_now f → SetupStops setup taken taken_now faults faults_now f
-    stops-so names other f command loaded stop = let P : SetupData → Type 0 = λ s. SetupStops s taken taken_now faults faults_now f in subst P (sym (loaded-as names other command loaded)) stop
+    stops-so : (command : Command) (other : Work) (f : Fault) → IsCommand words command → IsLoaded (where_told tells) command other → WorkStops other taken taken_now faults faults_now f → WorkStops work taken taken_now faults faults_now f
+    stops-so command other f is loaded stop = let P : Work → Type 0 = λ w. WorkStops w taken taken_now faults faults_now f in subst P (sym (loaded-as command other is loaded)) stop
 
-    reached-as : (names : Names) (part : Part) (file : List ℕ) → IsCommand words names → IsReached names tells part file → IsReached good.names tells part file
-    reached-as names part file command reached = let R : Names → Type 0 = λ m. IsReached m tells part file in subst R (one-command words names good.names command good.command) reached
+    reached-as : (command : Command) (part : Part) (file : List ℕ) → IsCommand words command → IsReached command tells part file → IsReached good.command tells part file
+    reached-as command part file is reached = let R : Command → Type 0 = λ c. IsReached c tells part file in subst R (one-command words command good.command is good.says) reached
 
-  pub completes : (setup : SetupData) → IsGood words tells failed failed_now faults faults_now setup → (status : Status) → Outcome words tells failed failed_now taken taken_now faults faults_now status → Completes setup taken taken_now faults faults_now status
-  completes setup good Ok h = done-so setup good false h
-  completes setup good BudgetSeen h = done-so setup good true h
-  completes setup good OutOfMemory h = tt
-  completes setup good TableFull h = stops-so setup good h.0 h.3.0 fault.TableFull h.1 h.3.1 h.3.2
-  completes setup good Usage h = h.0 good.names good.command
-  completes setup good (FileFault name) h = good.reads h.2.0 h.2.1 (reached-as setup good h.0 h.2.0 h.2.1 h.1 h.2.3) h.2.4
-  completes setup good (Refused name NotYet) h = no-refusal setup good h.2.0 h.2.1 (reached-as setup good h.0 h.2.0 h.2.1 h.1 h.2.3) h.2.4
-  completes setup good (Refused name (BadPlace line)) h = stops-so setup good h.0 h.3.0 (fault.BadPlace line) h.1 h.3.1 h.3.2
-  completes setup good SinkFault h = good.writes h.3.2.1
+    refused-never : (command : Command) (part : Part) (file : List ℕ) (cause : Refusal) → IsCommand words command → IsReached command tells part file → Told (tells file) (λ bytes. Refuses part bytes cause) → ⊥
+    refused-never command part file cause is reached h = no-refusal tells good.command work part file cause good.loaded (reached-as command part file is reached) h
+
+    many-never : (command : Command) (file : List ℕ) → IsCommand words command → HasManyRules command tells file → ⊥
+    many-never command file is many = let M : Command → Type 0 = λ c. HasManyRules c tells file in no-many tells good.command work good.loaded file (subst M (one-command words command good.command is good.says) many)
+
+    sink-never : (command : Command) (other : Work) → IsCommand words command → IsLoaded (where_told tells) command other → WorkStops other taken taken_now faults faults_now fault.SinkFault → ⊥
+    sink-never command (Linted settings) is loaded stop = good.writes stop.1
+    sink-never command (Played setup) is loaded stop = good.writes stop.1
+
+  pub completes : (work : Work) → IsGood words tells failed failed_now faults faults_now work → (status : Status) → Outcome words tells failed failed_now taken taken_now faults faults_now status → Completes work taken taken_now faults faults_now status
+  completes work good Ok h = done-so work good false h
+  completes work good BudgetSeen h = done-so work good true h
+  completes work good OutOfMemory h = tt
+  completes work good TableFull h = stops-so work good h.0 h.3.0 fault.TableFull h.1 h.3.1 h.3.2
+  completes work good Usage h = h.0 good.command good.says
+  completes work good (FileFault name) h = good.reads h.2.0 h.2.1 (reached-as work good h.0 h.2.0 h.2.1 h.1 h.2.3) h.2.4
+  completes work good (Refused name NotJson) h = refused-never work good h.0 h.2.0 h.2.1 h.2.4.0 h.1 h.2.3 h.2.4.2
+  completes work good (Refused name (BadShape path)) h = refused-never work good h.0 h.2.0 h.2.1 h.2.4.0 h.1 h.2.3 h.2.4.2
+  completes work good (Refused name NotYet) h = refused-never work good h.0 h.2.0 h.2.1 h.2.4.0 h.1 h.2.3 h.2.4.2
+  completes work good (Refused name TooManyRules) h = many-never work good h.0 h.2.0 h.1 h.2.2
+  completes work good (Refused name (BadPlace line)) h = stops-so work good h.0 h.3.0 (fault.BadPlace line) h.1 h.3.1 h.3.2
+  completes work good SinkFault h = sink-never work good h.0 h.3.0 h.1 h.3.1 h.3.2

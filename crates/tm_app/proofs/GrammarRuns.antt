@@ -1,7 +1,8 @@
 -- A run over a grammar, from a new model on.
+use mathlib.Core.List.{map-id}
 use Rattle.std.proofs.Common.{◌≡◌, ℕ, List, [], ◌∷◌, map, Bool, Option, sym, ◌∙◌, subst}
 use Rattle.tm_forms.specs.declared.script.Scripted.{Scripted}
-use Rattle.tm_line.specs.Setting.{Setting, BuiltSetting, setting_data}
+use Rattle.tm_line.specs.Setting.{Setting}
 use Rattle.tm_line.specs.Tokenizing.{rules_tokenized, rules_cost, rules_made}
 use Rattle.tm_machine.specs.Changes.{lines_of}
 use Rattle.tm_machine.specs.Machine.{machine_of}
@@ -14,36 +15,41 @@ use Rattle.tm_app.specs.Stands.{Stands, IsReached, AllDone, AllStopped, table_li
 use Rattle.tm_app.proofs.CostlyLines.{costly-lines}
 use Rattle.tm_app.proofs.StandSteps.{new-stands, new-reached}
 
-module _ (settings : List BuiltSetting) (budget : ℕ) (lines : List (List ℕ)) (held : Held BuiltSetting) (is : held ≡ new_model settings budget table_limit lines) where
-  stands : Stands setting_data rules_tokenized rules_cost rules_made (grammar_rules (map setting_data settings) budget) held (machine_of lines)
+-- contracts see a setting as its plain data
+abbrev itself : Setting → Setting
+itself setting = setting
+
+module _ (settings : List Setting) (budget : ℕ) (lines : List (List ℕ)) (held : Held Setting) (is : held ≡ new_model settings budget table_limit lines) where
+  stands : Stands itself rules_tokenized rules_cost rules_made (grammar_rules settings budget) held (machine_of lines)
   stands =
-      let Q : Held BuiltSetting → Type 0 = λ h. Stands setting_data rules_tokenized rules_cost rules_made (grammar_rules (map setting_data settings) budget) h (machine_of lines) in
-      subst Q (sym is) (new-stands setting_data rules_tokenized rules_cost rules_made settings budget table_limit lines)
+      let P : List Setting → Type 0 = λ l. Stands itself rules_tokenized rules_cost rules_made (grammar_rules l budget) (new_model settings budget table_limit lines) (machine_of lines) in
+      let Q : Held Setting → Type 0 = λ h. Stands itself rules_tokenized rules_cost rules_made (grammar_rules settings budget) h (machine_of lines) in
+      subst Q (sym is) (subst P (map-id settings) (new-stands itself rules_tokenized rules_cost rules_made settings budget table_limit lines))
 
-  reached : IsReached setting_data rules_tokenized rules_cost rules_made (grammar_rules (map setting_data settings) budget) (stand_in (machine_of lines) ∷ []) held
+  reached : IsReached itself rules_tokenized rules_cost rules_made (grammar_rules settings budget) (stand_in (machine_of lines) ∷ []) held
   reached =
-      let Q : Held BuiltSetting → Type 0 = λ h. IsReached setting_data rules_tokenized rules_cost rules_made (grammar_rules (map setting_data settings) budget) (stand_in (machine_of lines) ∷ []) h in
-      subst Q (sym is) (new-reached setting_data rules_tokenized rules_cost rules_made settings budget lines (grammar_rules (map setting_data settings) budget) (stand_in (machine_of lines) ∷ []))
+      let Q : Held Setting → Type 0 = λ h. IsReached itself rules_tokenized rules_cost rules_made (grammar_rules settings budget) (stand_in (machine_of lines) ∷ []) h in
+      subst Q (sym is) (new-reached itself rules_tokenized rules_cost rules_made settings budget lines (grammar_rules settings budget) (stand_in (machine_of lines) ∷ []))
 
-  pub lines-play : (steps : List Scripted) (a b : Option (List ℕ)) (seen : Bool) → AllDone setting_data rules_tokenized rules_cost rules_made held steps a b seen → LinesPlay (map setting_data settings) budget lines steps a b seen
+  pub lines-play : (steps : List Scripted) (a b : Option (List ℕ)) (seen : Bool) → AllDone itself rules_tokenized rules_cost rules_made held steps a b seen → LinesPlay settings budget lines steps a b seen
   lines-play steps a b seen h =
-      let r = grammar_rules (map setting_data settings) budget in
+      let r = grammar_rules settings budget in
       let did = h r (machine_of lines) stands reached in
       (did.0, did.1, did.2, did.3, did.4, λ is. costly-lines r lines did.1 steps did.0 did.2 (did.4 ∙ is))
 
-  pub lines-stop : (steps : List Scripted) (a b : Option (List ℕ)) (f g : ℕ) (fault : Fault) → AllStopped setting_data rules_tokenized rules_cost rules_made held steps a b f g fault → LinesStop (map setting_data settings) budget lines steps a b f g fault
-  lines-stop steps a b f g fault h = h (grammar_rules (map setting_data settings) budget) (machine_of lines) stands reached
+  pub lines-stop : (steps : List Scripted) (a b : Option (List ℕ)) (f g : ℕ) (fault : Fault) → AllStopped itself rules_tokenized rules_cost rules_made held steps a b f g fault → LinesStop settings budget lines steps a b f g fault
+  lines-stop steps a b f g fault h = h (grammar_rules settings budget) (machine_of lines) stands reached
 
 -- the run of what was read
 module _ (setup : SetupData) (settings : List Setting) (lines : List (List ℕ)) (steps : List Scripted) (a b : Option (List ℕ)) where
-  pub setup-play : (seen : Bool) → settings ≡ setup.grammar ∷ [] → lines ≡ lines_of setup.text → steps ≡ setup.script → LinesPlay settings setup.budget lines steps a b seen → SetupPlays setup a b seen
+  pub setup-play : (seen : Bool) → settings ≡ setup.settings → lines ≡ lines_of setup.text → steps ≡ setup.script → LinesPlay settings setup.budget lines steps a b seen → SetupPlays setup a b seen
   setup-play seen e f h done =
       let P : List Setting → Type 0 = λ z. LinesPlay z setup.budget (lines_of setup.text) setup.script a b seen in
       let Q : List (List ℕ) → Type 0 = λ z. LinesPlay settings setup.budget z setup.script a b seen in
       let R : List Scripted → Type 0 = λ z. LinesPlay settings setup.budget lines z a b seen in
       subst P e (subst Q f (subst R h done))
 
-  pub setup-stop : (f0 f1 : ℕ) (fault : Fault) → settings ≡ setup.grammar ∷ [] → lines ≡ lines_of setup.text → steps ≡ setup.script → LinesStop settings setup.budget lines steps a b f0 f1 fault → SetupStops setup a b f0 f1 fault
+  pub setup-stop : (f0 f1 : ℕ) (fault : Fault) → settings ≡ setup.settings → lines ≡ lines_of setup.text → steps ≡ setup.script → LinesStop settings setup.budget lines steps a b f0 f1 fault → SetupStops setup a b f0 f1 fault
   setup-stop f0 f1 fault e f h stopped =
       let P : List Setting → Type 0 = λ z. LinesStop z setup.budget (lines_of setup.text) setup.script a b f0 f1 fault in
       let Q : List (List ℕ) → Type 0 = λ z. LinesStop settings setup.budget z setup.script a b f0 f1 fault in

@@ -1,10 +1,14 @@
 pub mod Commands
 pub mod Completes
 pub mod CostlyLines
+pub mod Givens
 pub mod GrammarRuns
-pub mod Loads
+pub mod Layers
+pub mod LintLines
 pub mod Outcomes
 pub mod PlayRuns
+pub mod Reads
+pub mod SettingsSome
 pub mod ShownLines
 pub mod StandSteps
 pub mod StepTests

@@ -1,5 +1,8 @@
+pub mod Command
 pub mod Complete
+pub mod Given
 pub mod Hex
+pub mod Lint
 pub mod Outcome
 pub mod Play
 pub mod Printed

@@ -1,94 +1,119 @@
--- The files of a run, in the order in which they are read.
-use Rattle.std.specs.Prelude.{◌≡◌, ℕ, List, [], ◌∷◌, Option, Some, None, ⊤, codes, chars}
+-- The files of a command, in the order in which they are read.
+use Rattle.std.specs.Prelude.{◌≡◌, ℕ, List, Option, Some, None, Result, Ok, Err, ⊤, chars, ok_or}
 use Rattle.tm_forms.specs.Settings.{SettingsData, settings_in}
 use Rattle.tm_forms.specs.Grammar.{grammar_in}
+use Rattle.tm_forms.specs.declared.form.Refusal.{Refusal}
+use Rattle.tm_forms.specs.declared.form.Refusal.TheVariants as refusal
 use Rattle.tm_forms.specs.declared.script.Scripted.{Scripted}
 use Rattle.tm_forms.specs.Script.{script_in, scan_steps}
 use Rattle.tm_forms.specs.Text.{text_in}
 use Rattle.tm_line.specs.Setting.{Setting}
-use Rattle.tm_app.specs.Setup.{SetupData}
-use Rattle.tm_app.specs.declared.status.What.TheVariants.{NotYet, BadPlace}
+use Rattle.tm_app.specs.Command.{Names, Command, Lint, Run, settings_named}
+use Rattle.tm_app.specs.Given.{AreLoaded, IsGrammarReached, IsTooMany}
+use Rattle.tm_app.specs.Setup.{SetupData, Work, Linted, Played}
+use Rattle.tm_app.specs.declared.status.What.TheVariants.{TooManyRules}
 use Rattle.tm_app.specs.declared.status.Status.{Status}
-use Rattle.tm_app.specs.declared.status.Status.TheVariants.{Ok, Usage, FileFault, Refused, SinkFault, OutOfMemory, BudgetSeen, TableFull}
-use Rattle.tm_app.specs.Told.{Told, HasAdded, IsFileStop}
+use Rattle.tm_app.specs.declared.status.Status.TheVariants as status
+use Rattle.tm_app.specs.Told.{Told, where_told, HasAdded, IsRefusedAs, IsFileStop}
 
--- the files that a command names; a scan has no script
-pub record Names : Type 0 where
-  pub settings : List ℕ
-  pub text : List ℕ
-  pub script : Option (List ℕ)
+-- texts and scripts are refused only where their form is still to come
+abbrev pub text_form : List ℕ → Result (List ℕ) Refusal
+text_form bytes = ok_or (text_in bytes) refusal.NotYet
 
--- the words of a command: `replay SETTINGS FILE SCRIPT`, or `scan SETTINGS FILE`
-abbrev pub words_of : (settings text : List ℕ) → (script : Option (List ℕ)) → List (List ℕ)
-words_of settings text None = codes "scan" ∷ settings ∷ text ∷ []
-words_of settings text (Some script) = codes "replay" ∷ settings ∷ text ∷ script ∷ []
+abbrev pub script_form : List ℕ → Result (List Scripted) Refusal
+script_form bytes = ok_or (script_in bytes) refusal.NotYet
 
-abbrev pub IsCommand : List (List ℕ) → Names → Type 0
-IsCommand words names = words ≡ words_of names.settings names.text names.script
-
--- the files of a run, in reading order
+-- the files of a command, in reading order
 pub data Part : Type 0 where
   the_settings : Part
   the_grammar : Part
   the_text : Part
   the_script : Part
 
--- the bytes are not of the form that is built
-abbrev pub IsOutside : Part → List ℕ → Type 0
-IsOutside the_settings bytes = settings_in bytes ≡ None
-IsOutside the_grammar bytes = grammar_in bytes ≡ None
-IsOutside the_text bytes = text_in bytes ≡ None
-IsOutside the_script bytes = script_in bytes ≡ None
+-- the bytes of a file are refused for this
+abbrev pub Refuses : Part → List ℕ → Refusal → Type 0
+Refuses the_settings bytes cause = settings_in bytes ≡ Err cause
+Refuses the_grammar bytes cause = grammar_in bytes ≡ Err cause
+Refuses the_text bytes cause = text_form bytes ≡ Err cause
+Refuses the_script bytes cause = script_form bytes ≡ Err cause
 
--- the steps are those of the script, or of a scan
-abbrev pub GivesScript : (tells : List ℕ → Option (List ℕ)) → Option (List ℕ) → List Scripted → Type 0
-GivesScript tells None steps = steps ≡ scan_steps
-GivesScript tells (Some file) steps = Told (tells file) (λ bytes. script_in bytes ≡ Some steps)
+module _ (holds : List ℕ → (List ℕ → Type 0) → Type 0) where
+  -- the steps are those of the script, or of a scan
+  abbrev pub GivesScript : Option (List ℕ) → List Scripted → Type 0
+  GivesScript None steps = steps ≡ scan_steps
+  GivesScript (Some file) steps = holds file (λ bytes. script_form bytes ≡ Ok steps)
+
+  -- all files of a run over a text are read
+  pub record IsSetupLoaded (names : Names) (setup : SetupData) : Type 0 where
+    pub settings : AreLoaded holds names.settings setup.budget setup.settings
+    pub text : holds names.text (λ bytes. text_form bytes ≡ Ok setup.text)
+    pub script : GivesScript names.script setup.script
+
+  -- all files of a command are read
+  abbrev pub IsLoaded : Command → Work → Type 0
+  IsLoaded (Lint file) (Linted settings) = (budget : ℕ) × AreLoaded holds file budget settings
+  IsLoaded (Lint file) (Played setup) = ⊥
+  IsLoaded (Run names) (Linted settings) = ⊥
+  IsLoaded (Run names) (Played setup) = IsSetupLoaded names setup
+
+-- of the files only grammar files, and no file
+abbrev pub IsGrammarPart : (List ℕ → Type 0) → Part → List ℕ → Type 0
+IsGrammarPart reached the_settings file = ⊥
+IsGrammarPart reached the_grammar file = reached file
+IsGrammarPart reached the_text file = ⊥
+IsGrammarPart reached the_script file = ⊥
+
+abbrev pub no_file : List ℕ → Type 0
+no_file file = ⊥
+
+-- why a reading may stop that comes to these files, and of which these grammar files stand for too many rules
+module _ (tells : List ℕ → Option (List ℕ)) (reached : Part → List ℕ → Type 0) (many : List ℕ → Type 0) (old new : List (List ℕ)) where
+  abbrev pub IsReadStop : Status → Type 0
+  IsReadStop (status.FileFault name) = (part : Part) × (file : List ℕ) × (name ≡ chars file) × reached part file × HasAdded old new file
+  IsReadStop (status.Refused name TooManyRules) = (file : List ℕ) × (name ≡ chars file) × many file
+  IsReadStop (status.Refused name what) = (part : Part) × (file : List ℕ) × (name ≡ chars file) × reached part file × IsRefusedAs (λ cause. Told (tells file) (λ bytes. Refuses part bytes cause)) what
+  IsReadStop status.OutOfMemory = ⊤
+  IsReadStop status.Ok = ⊥
+  IsReadStop status.Usage = ⊥
+  IsReadStop status.SinkFault = ⊥
+  IsReadStop status.BudgetSeen = ⊥
+  IsReadStop status.TableFull = ⊥
 
 -- why the reading of a script may stop a run; a scan reads none
 abbrev pub IsScriptStop : (tells : List ℕ → Option (List ℕ)) → List (List ℕ) → List (List ℕ) → Option (List ℕ) → Status → Type 0
-IsScriptStop tells old new None status = status ≡ OutOfMemory
-IsScriptStop tells old new (Some file) status = IsFileStop (Told (tells file) (λ bytes. script_in bytes ≡ None)) old new file status
+IsScriptStop tells old new None ended = ended ≡ status.OutOfMemory
+IsScriptStop tells old new (Some file) ended = IsFileStop (λ cause. Told (tells file) (λ bytes. script_form bytes ≡ Err cause)) old new file ended
 
-module _ (names : Names) (tells : List ℕ → Option (List ℕ)) where
-  -- what the files give, where they tell their bytes
+module _ (command : Command) (tells : List ℕ → Option (List ℕ)) where
+  -- what the settings file says, where it tells its bytes
   abbrev pub GivesSettings : SettingsData → Type 0
-  GivesSettings settings = Told (tells names.settings) (λ bytes. settings_in bytes ≡ Some settings)
+  GivesSettings says = Told (tells (settings_named command)) (λ bytes. settings_in bytes ≡ Ok says)
 
-  abbrev pub GivesGrammar : SettingsData → Setting → Type 0
-  GivesGrammar settings grammar = Told (tells settings.grammar) (λ bytes. grammar_in bytes ≡ Some grammar)
+  -- the settings file and all grammar files are of their forms, and no setting has too many rules
+  abbrev pub HasSettings : Type 0
+  HasSettings = (budget : ℕ) × (settings : List Setting) × AreLoaded (where_told tells) (settings_named command) budget settings
 
-  abbrev pub GivesText : List ℕ → Type 0
-  GivesText text = Told (tells names.text) (λ bytes. text_in bytes ≡ Some text)
+  -- the reading comes to this text file, or to this script
+  abbrev pub IsTextReached : Command → List ℕ → Type 0
+  IsTextReached (Lint settings) file = ⊥
+  IsTextReached (Run names) file = (file ≡ names.text) × HasSettings
 
-  -- the settings file and the grammar are of their forms
-  abbrev pub HasGrammar : Type 0
-  HasGrammar = (settings : SettingsData) × GivesSettings settings × ((grammar : Setting) × GivesGrammar settings grammar)
+  abbrev pub IsScriptReached : Command → List ℕ → Type 0
+  IsScriptReached (Lint settings) file = ⊥
+  IsScriptReached (Run names) file = (Some file ≡ names.script) × HasSettings × ((text : List ℕ) × Told (tells names.text) (λ bytes. text_form bytes ≡ Ok text))
 
-  -- the reading comes to this file: each file before it is of its form, so that no refusal is decided earlier
+  -- the reading comes to this file: each file before it is of its form, and no setting before it has too many rules, so
+  -- that no refusal is decided earlier
   abbrev pub IsReached : Part → List ℕ → Type 0
-  IsReached the_settings file = file ≡ names.settings
-  IsReached the_grammar file = (settings : SettingsData) × GivesSettings settings × (file ≡ settings.grammar)
-  IsReached the_text file = (file ≡ names.text) × HasGrammar
-  IsReached the_script file = (Some file ≡ names.script) × HasGrammar × ((text : List ℕ) × GivesText text)
+  IsReached the_settings file = file ≡ settings_named command
+  IsReached the_grammar file = (says : SettingsData) × GivesSettings says × IsGrammarReached (where_told tells) says.settings file
+  IsReached the_text file = IsTextReached command file
+  IsReached the_script file = IsScriptReached command file
 
-  -- all files are read
-  pub record IsLoaded (setup : SetupData) : Type 0 where
-    pub settings : SettingsData
-    pub given : GivesSettings settings
-    pub budget : setup.budget ≡ settings.budget
-    pub grammar : GivesGrammar settings setup.grammar
-    pub text : GivesText setup.text
-    pub script : GivesScript tells names.script setup.script
+  -- the reading comes behind the last file of a setting with this grammar, and it has too many rules
+  abbrev pub HasManyRules : List ℕ → Type 0
+  HasManyRules file = (says : SettingsData) × GivesSettings says × IsTooMany (where_told tells) says.settings file
 
-  -- the reading ends at a file
+  -- why the reading of a command's files may stop
   abbrev pub IsLoadStop : List (List ℕ) → List (List ℕ) → Status → Type 0
-  IsLoadStop old new (FileFault name) = (part : Part) × (file : List ℕ) × (name ≡ chars file) × IsReached part file × HasAdded old new file
-  IsLoadStop old new (Refused name NotYet) = (part : Part) × (file : List ℕ) × (name ≡ chars file) × IsReached part file × Told (tells file) (IsOutside part)
-  IsLoadStop old new (Refused name (BadPlace line)) = ⊥
-  IsLoadStop old new OutOfMemory = ⊤
-  IsLoadStop old new Ok = ⊥
-  IsLoadStop old new Usage = ⊥
-  IsLoadStop old new SinkFault = ⊥
-  IsLoadStop old new BudgetSeen = ⊥
-  IsLoadStop old new TableFull = ⊥
+  IsLoadStop old new ended = IsReadStop tells IsReached HasManyRules old new ended

@@ -1,16 +1,24 @@
 -- What is printed of how a run ended.
-use Rattle.std.specs.Prelude.{ℕ, List, [], ◌++◌, codes, decimal, encode_utf8_all}
+use Rattle.std.specs.Prelude.{ℕ, List, [], ◌∷◌, ◌++◌, codes, decimal, encode_utf8_all}
 use Rattle.tm_app.specs.declared.status.What.{What}
-use Rattle.tm_app.specs.declared.status.What.TheVariants.{NotYet, BadPlace}
+use Rattle.tm_app.specs.declared.status.What.TheVariants.{NotJson, BadShape, NotYet, TooManyRules, BadPlace}
 use Rattle.tm_app.specs.declared.status.Status.{Status}
 use Rattle.tm_app.specs.declared.status.Status.TheVariants as status
 
 abbrev pub usage_text : List ℕ
 usage_text = codes "usage: tm_prog scan SETTINGS FILE, replay SETTINGS FILE SCRIPT, live SETTINGS FILE SCRIPT, lint SETTINGS, gen N\n"
 
+-- the path of a whole value is written `/`
+abbrev pub path_text : List ℕ → List ℕ
+path_text [] = codes "/"
+path_text (c ∷ cs) = encode_utf8_all (c ∷ cs)
+
 -- with its line break
 abbrev pub what_text : What → List ℕ
+what_text NotJson = codes "NotJson\n"
+what_text (BadShape path) = codes "BadShape " ++ path_text path ++ codes "\n"
 what_text NotYet = codes "NotYet\n"
+what_text TooManyRules = codes "TooManyRules\n"
 what_text (BadPlace line) = codes "BadPlace " ++ decimal line ++ codes "\n"
 
 abbrev pub status_text : Status → List ℕ

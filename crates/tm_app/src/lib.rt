@@ -2,11 +2,19 @@
 //! writes what they print. Files and sinks are whatever the caller hands in.
 #![tactic(auto)]
 
+mod command;
 mod hex;
+mod lint;
+#[cfg(test)]
+mod lint_tests;
+#[cfg(test)]
+mod names_tests;
 pub mod outcome;
 mod play;
 mod printed;
 mod reading;
+#[cfg(test)]
+mod refusal_tests;
 pub mod report;
 #[cfg(test)]
 mod scan_tests;

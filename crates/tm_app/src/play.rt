@@ -34,7 +34,7 @@ pub enum Fault {
 }
 
 /// Writes one line.
-fn write_line<S: Sink>(text: &str, out: &mut S) -> Result<(), Fault>
+pub fn write_line<S: Sink>(text: &str, out: &mut S) -> Result<(), Fault>
     ensures ok { OnOk result (Takes (S.taken out.old) (S.taken out.new) text.now) }
     ensures err { IfErr result (IsWriteStop (TakesFront (S.taken out.old) (S.taken out.new) text.now) (S.faults out.old) (S.faults out.new)) }
     ensures never_falls { S.faults out.old ≤ S.faults out.new }

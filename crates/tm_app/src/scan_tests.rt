@@ -1,7 +1,7 @@
 //! Lines of small grammars, with tokens worked out by hand, and lines that cost too much.
 
 use crate::outcome;
-use crate::tests::{SETTINGS, files_of, list};
+use crate::tests::{SETTINGS, files_in, files_of, list};
 use std::alloc::Global;
 use std::process::Abort;
 use std::test::Fail;
@@ -272,15 +272,31 @@ fn printed(alloc: Global, tokens: &str) -> Result<String, Fail> {
     Ok(text)
 }
 
-/// The status of a scan, and what it writes.
-fn scanned(alloc: Global, grammar: &str, text: &str, out: &mut HonestSink) -> Result<u8, Fail> {
-    let mut files = files_of(alloc, [SETTINGS, grammar, text, ""], &[])?;
+/// The status of a scan over settings and two grammars, and what it writes.
+fn scanned(alloc: Global, texts: [&str; 4], out: &mut HonestSink) -> Result<u8, Fail> {
+    let [settings, grammar, more, text] = texts;
+    let mut files = files_in(alloc, [settings, grammar, more, text, ""], &[])?;
     let mut err = HonestSink::new(Vec::new(alloc));
     let words = list(alloc, &["scan", "s", "t"])?;
     Ok(outcome::run(alloc, &words, &mut files, out, &mut err).code())
 }
 
-/// Whether a scan of the text prints these tokens.
+/// Whether a scan prints these tokens: settings, two grammars and the text.
+pub fn gives_all(
+    rt: &impl Abort,
+    alloc: Global,
+    texts: [&str; 4],
+    tokens: &str,
+) -> Result<(), Fail> {
+    let want = printed(alloc, tokens)?;
+    let mut out = HonestSink::new(Vec::new(alloc));
+    let code = scanned(alloc, texts, &mut out)?;
+    assert_eq!(rt; code, 0, "{tokens}");
+    assert_eq!(rt; out.bytes(), want.as_bytes(), "{tokens}");
+    Ok(())
+}
+
+/// Whether a scan of the text by a grammar of these patterns prints these tokens.
 pub fn gives_tokens(
     rt: &impl Abort,
     alloc: Global,
@@ -289,12 +305,7 @@ pub fn gives_tokens(
     tokens: &str,
 ) -> Result<(), Fail> {
     let grammar = grammar_of(alloc, patterns)?;
-    let want = printed(alloc, tokens)?;
-    let mut out = HonestSink::new(Vec::new(alloc));
-    let code = scanned(alloc, grammar.as_str(), text, &mut out)?;
-    assert_eq!(rt; code, 0, "{patterns}");
-    assert_eq!(rt; out.bytes(), want.as_bytes(), "{patterns}");
-    Ok(())
+    gives_all(rt, alloc, [SETTINGS, grammar.as_str(), "", text], tokens)
 }
 
 /// Each row, by a scan.

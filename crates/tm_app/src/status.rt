@@ -1,16 +1,23 @@
 //! How a run ended, and what is printed of it.
-ghost use Rattle.std.specs.Prelude.{◌≡◌, ◌++◌, ℕ, IfOk, string_bytes, codes, chars, encode_utf8_all};
-ghost use Rattle.tm_app.specs.Status.{status_text, status_code, what_text, usage_text};
+ghost use Rattle.std.specs.Prelude.{◌≡◌, ◌++◌, ℕ, IfOk, string_bytes, codes, chars, decimal, encode_utf8_all};
+ghost use Rattle.tm_app.specs.Status.{status_text, status_code, what_text, path_text, usage_text};
 
 use std::alloc::Global;
 use tm_defs::memory::OutOfMemory;
 use tm_defs::texts::Name;
 
 /// What is wrong with a file.
-#[derive(Clone, Copy, Debug, PartialEq, Eq)]
+#[derive(Drop)]
 pub enum What {
+    /// A settings or grammar file is the text of no JSON value.
+    NotJson,
+    /// The path of the first wrong value of a settings or grammar file, as a JSON Pointer (RFC 6901); the
+    /// whole value's is empty, and printed as `/`.
+    BadShape(Name),
     /// The file is of a form that is not built yet.
     NotYet,
+    /// The grammars of the setting with this grammar have more than 65,535 rules.
+    TooManyRules,
     /// The places of the edit at this line of the script are not in the text.
     BadPlace(u32),
 }
@@ -42,7 +49,7 @@ pub fn name_of(alloc: Global, text: &str) -> Result<Name, OutOfMemory>
 }
 
 /// Characters as a text.
-fn text_of(alloc: Global, name: &Name) -> Result<String, OutOfMemory>
+pub fn text_of(alloc: Global, name: &Name) -> Result<String, OutOfMemory>
     ensures { IfOk result (λ text. string_bytes text ≡ encode_utf8_all name.now) }
 {
     let mut text = String::new(alloc);
@@ -50,15 +57,6 @@ fn text_of(alloc: Global, name: &Name) -> Result<String, OutOfMemory>
         text.push(*c)?;
     }
     Ok(text)
-}
-
-fn what_line(alloc: Global, what: What) -> Result<String, OutOfMemory>
-    ensures { IfOk result (λ text. string_bytes text ≡ what_text what) }
-{
-    match what {
-        What::NotYet => Ok(String::from_str(alloc, "NotYet\n")?),
-        What::BadPlace(line) => Ok(format!(in alloc; "BadPlace {line}\n")?),
-    }
 }
 
 /// A name between two texts.
@@ -70,6 +68,35 @@ fn around(alloc: Global, first: &str, name: &Name, last: &str) -> Result<String,
     text.push_str(middle.as_str())?;
     text.push_str(last)?;
     Ok(text)
+}
+
+/// The path of a whole value has a sign of its own.
+fn bad_shape(alloc: Global, path: &Name) -> Result<String, OutOfMemory>
+    ensures { IfOk result (λ text. string_bytes text ≡ codes "BadShape " ++ path_text path.now ++ codes "\n") }
+{
+    if path.as_slice().is_empty() {
+        Ok(String::from_str(alloc, "BadShape /\n")?)
+    } else {
+        around(alloc, "BadShape ", path, "\n")
+    }
+}
+
+fn bad_place(alloc: Global, line: u32) -> Result<String, OutOfMemory>
+    ensures { IfOk result (λ text. string_bytes text ≡ codes "BadPlace " ++ decimal line ++ codes "\n") }
+{
+    Ok(format!(in alloc; "BadPlace {line}\n")?)
+}
+
+fn what_line(alloc: Global, what: &What) -> Result<String, OutOfMemory>
+    ensures { IfOk result (λ text. string_bytes text ≡ what_text what.now) }
+{
+    match what {
+        What::NotJson => Ok(String::from_str(alloc, "NotJson\n")?),
+        What::BadShape(path) => bad_shape(alloc, path),
+        What::NotYet => Ok(String::from_str(alloc, "NotYet\n")?),
+        What::TooManyRules => Ok(String::from_str(alloc, "TooManyRules\n")?),
+        What::BadPlace(line) => bad_place(alloc, *line),
+    }
 }
 
 fn refused(alloc: Global, name: &Name, what: &str) -> Result<String, OutOfMemory>
@@ -98,7 +125,7 @@ pub fn status_line(alloc: Global, status: &Status) -> Result<String, OutOfMemory
         Status::Usage => usage_line(alloc),
         Status::FileFault(name) => around(alloc, "cannot read ", name, "\n"),
         Status::Refused(name, what) => {
-            let last = what_line(alloc, *what)?;
+            let last = what_line(alloc, what)?;
             refused(alloc, name, last.as_str())
         }
         Status::SinkFault => Ok(String::from_str(alloc, "cannot write\n")?),

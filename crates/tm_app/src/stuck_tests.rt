@@ -1,24 +1,9 @@
 //! Lines on which a match takes no character, and lines whose patterns ask for an anchor, with tokens
 //! worked out by hand.
 
-ghost use Rattle.std.specs.Prelude.{◌≡◌, ◌<◌, ◌-◌, ◌^◌, length, IfOk};
-
-use crate::scan_tests::gives_tokens;
-use std::alloc::Global;
-use std::marker::Brand;
-use std::process::Abort;
-use std::sync::ledger::{Blank, Ledger};
+use crate::scan_tests::{gives_all, gives_tokens};
+use crate::tests::SETTINGS;
 use std::test::Fail;
-use tm_defs::frames::StateId;
-use tm_defs::rules::Numbers;
-use tm_defs::steps::Steps;
-use tm_defs::tables::States;
-use tm_defs::texts::{Line, Name};
-use tm_defs::tokenizer::{LineFault, LineOut, LineTok};
-use tm_defs::tokens::Token;
-use tm_line::rules::Rule;
-use tm_line::tokenizer::Setting;
-use tm_model::numbering::Numbering;
 
 /// The patterns of a grammar, a text and its tokens, written as those of `scan_tests`: matches and ends
 /// that take no character.
@@ -236,156 +221,45 @@ fn anchors_match_where_they_stand(rt: HostRuntime) -> Result<(), Fail> {
     Ok(())
 }
 
-/// Begin, end, name and the numbers of the rules inside.
-type Opened = (&'static str, &'static str, &'static str, &'static [u32]);
+/// Grammars whose rules are inside themselves, a text and its tokens: of the rules that were opened at a
+/// position none is opened there again.
+const INSIDE: [(&str, &str, &str); 5] = [
+    (
+        r##"{"scopeName":"source.t","patterns":[{"include":"#r"}],"repository":{"r":{"begin":"(?=a)","end":"z","name":"comment.t","patterns":[{"include":"#r"}]}}}"##,
+        "ab\nzb",
+        "0c|0c 1o",
+    ),
+    // not the innermost rule, but the one around it
+    (
+        r##"{"scopeName":"source.t","patterns":[{"include":"#o"}],"repository":{"o":{"begin":"(?=a)","end":"z","name":"comment.t","patterns":[{"include":"#i"}]},"i":{"begin":"(?=a)","end":"y","name":"string.t","patterns":[{"include":"#o"}]}}}"##,
+        "ab\nyzb",
+        "0s|0s 1c 2o",
+    ),
+    // The rule around was opened at another position, so it opens once more.
+    (
+        r#"{"scopeName":"source.t","patterns":[{"begin":"(?=b)","end":"z","name":"comment.t","patterns":[{"include":"$self"}]}]}"#,
+        "abx\nzzz",
+        "0o 1c|0c 2o",
+    ),
+    // and so where the rule around is of another line
+    (
+        r#"{"scopeName":"source.t","patterns":[{"begin":"(?=b)","end":"z","name":"comment.t","patterns":[{"include":"$self"}]}]}"#,
+        "b\nb\nzzz",
+        "0c|0c|0c 2o",
+    ),
+    (BRACKETS, "(()())x\n((\n)))", "0c 6o|0c|0c 2o"),
+];
 
-/// Opens at an `a`, and lists itself.
-const AT_A: Opened = ("(?=a)", "z", "comment.t", &[1]);
+/// Parentheses within one another.
+const BRACKETS: &str =
+    r#"{"scopeName":"source.t","patterns":[{"begin":"\\(","end":"\\)","name":"comment.t","patterns":[{"include":"$self"}]}]}"#;
 
-/// Opens before a `b`, and lists itself.
-const BEFORE_B: Opened = ("(?=b)", "z", "comment.t", &[1]);
-
-/// Two that open at an `a`, and list each other.
-const OUTER: Opened = ("(?=a)", "z", "comment.t", &[2]);
-
-const INNER: Opened = ("(?=a)", "y", "string.t", &[1]);
-
-/// Opens at a parenthesis, and lists itself.
-const BRACKET: Opened = ("\\(", "\\)", "comment.t", &[1]);
-
-fn name_of(alloc: Global, text: &str) -> Result<Name, Fail> {
-    Ok(Name::new(text.chars().collect(alloc)?))
-}
-
-fn numbers_of(alloc: Global, numbers: &[u32]) -> Result<Numbers, Fail> {
-    let mut all = Vec::new(alloc);
-    all.extend_from_slice(numbers)?;
-    Ok(Numbers::new(all))
-}
-
-/// A root that lists rule 1, and these rules from number 1 on.
-fn rules_of(alloc: Global, opened: &[Opened]) -> Result<Vec<Rule>, Fail> {
-    let mut rules = Vec::new(alloc);
-    rules.push(Rule::Only {
-        patterns: numbers_of(alloc, &[1])?,
-    })?;
-    for (begin, end, name, inside) in opened {
-        rules.push(Rule::BeginEnd {
-            begin: name_of(alloc, begin)?,
-            end: name_of(alloc, end)?,
-            name: Some(name_of(alloc, name)?),
-            content_name: None,
-            patterns: numbers_of(alloc, inside)?,
-        })?;
-    }
-    Ok(rules)
-}
-
-fn letter_of(meta: u32) -> char {
-    match meta {
-        0x0200_8401 => 'o',
-        0x0200_8501 => 'c',
-        0x0200_8601 => 's',
-        _ => '?',
-    }
-}
-
-fn push_tokens(alloc: Global, text: &mut String, tokens: &[Token]) -> Result<(), Fail> {
-    for token in tokens {
-        let start = token.start;
-        text.push_str(format!(in alloc; " {start}")?.as_str())?;
-        text.push(letter_of(token.meta))?;
-    }
-    Ok(())
-}
-
-fn line_from<S: States, L: Ledger>(
-    setting: &Setting,
-    table: &mut S,
-    start: StateId,
-    line: &Line,
-    steps: &mut Steps<L>,
-) -> Result<LineOut, LineFault>
-    requires start { start.0 < length (S.tables table.old).states }
-    requires short { length line.now < 2 ^ 31 - 1 }
-    ensures { IfOk result (λ out. out.end.0 < length (S.tables table.new).states) }
-{
-    setting.line(table, start, line, 1_000_000, steps)
-}
-
-/// The tokens of lines that `|` parts, with a counter of the lines.
-fn counted_tokens<L: Ledger>(
-    alloc: Global,
-    setting: &Setting,
-    lines: &String,
-    blank: Blank,
-) -> Result<String, Fail>
-    requires name { blank.name ≡ L.name }
-    requires parts { blank.parts ≡ L.parts }
-    requires some { 0 < blank.parts }
-{
-    let mut table = Numbering::new(alloc, 10_000);
-    let mut steps: Steps<L> = Steps::new(blank);
-    let mut text = String::new(alloc);
-    let mut state = StateId(0);
-    table.known();
-    for line in lines.as_str().split('|') {
-        let chars: Vec<char> = line.chars().collect(alloc)?;
-        if chars.len() > 1_000 {
-            return Ok(String::from_str(alloc, "a long line")?);
-        }
-        match line_from(setting, &mut table, state, &Line::new(chars), &mut steps) {
-            Ok(out) => {
-                text.push_str(" |")?;
-                push_tokens(alloc, &mut text, out.tokens.as_slice())?;
-                state = out.end;
-            }
-            Err(_) => return Ok(String::from_str(alloc, "a fault")?),
-        }
-    }
-    Ok(text)
-}
-
-fn setting_of(alloc: Global, opened: &[Opened]) -> Result<Setting, Fail> {
-    let scope = name_of(alloc, "source.t")?;
-    Ok(Setting::build(alloc, scope, rules_of(alloc, opened)?)?)
-}
-
-fn tokens_of(alloc: Global, setting: &Setting, lines: &String) -> Result<String, Fail> {
-    counted_tokens::<Brand>(alloc, setting, lines, Blank::new(1))
-}
-
-/// Whether lines that `|` parts have these tokens.
-fn gives_lines(
-    rt: &impl Abort,
-    alloc: Global,
-    opened: &[Opened],
-    lines: &str,
-    tokens: &str,
-) -> Result<(), Fail> {
-    let setting = setting_of(alloc, opened)?;
-    let lines = String::from_str(alloc, lines)?;
-    let got = tokens_of(alloc, &setting, &lines)?;
-    assert_eq!(rt; got.as_str(), tokens, "{lines}");
-    Ok(())
-}
-
-/// Rules, lines and tokens: of the rules that were opened at a position none is opened there again.
+/// Each row, by a scan.
 #[test]
 fn rules_inside_themselves(rt: HostRuntime) -> Result<(), Fail> {
     let alloc = rt.alloc();
-    let rows: [(&[Opened], &str, &str); 5] = [
-        (&[AT_A], "ab|zb", " | 0c | 0c 1o"),
-        // not the innermost rule, but the one around it
-        (&[OUTER, INNER], "ab|yzb", " | 0s | 0s 1c 2o"),
-        // The rule around was opened at another position, so it opens once more.
-        (&[BEFORE_B], "abx|zzz", " | 0o 1c | 0c 2o"),
-        // and so where the rule around is of another line
-        (&[BEFORE_B], "b|b|zzz", " | 0c | 0c | 0c 2o"),
-        (&[BRACKET], "(()())x|((|)))", " | 0c 6o | 0c | 0c 2o"),
-    ];
-    for (opened, lines, tokens) in rows {
-        gives_lines(&rt, alloc, opened, lines, tokens)?;
+    for (grammar, text, tokens) in INSIDE {
+        gives_all(&rt, alloc, [SETTINGS, grammar, "", text], tokens)?;
     }
     Ok(())
 }
@@ -394,14 +268,19 @@ fn rules_inside_themselves(rt: HostRuntime) -> Result<(), Fail> {
 #[test]
 fn rules_are_open_up_to_their_limit(rt: HostRuntime) -> Result<(), Fail> {
     let alloc = rt.alloc();
-    let mut lines = String::new(alloc);
+    let mut text = String::new(alloc);
     for _ in 0..520 {
-        lines.push('(')?;
+        text.push('(')?;
     }
-    lines.push('|')?;
+    text.push('\n')?;
     for _ in 0..511 {
-        lines.push(')')?;
+        text.push(')')?;
     }
-    lines.push('x')?;
-    gives_lines(&rt, alloc, &[BRACKET], lines.as_str(), " | 0c | 0c 511o")
+    text.push('x')?;
+    gives_all(
+        &rt,
+        alloc,
+        [SETTINGS, BRACKETS, "", text.as_str()],
+        "0c|0c 511o",
+    )
 }

@@ -13,7 +13,7 @@ use tm_outside::sink::Sink;
 
 pub(crate) const SETTINGS: &str = r#"{"settings":[{"grammar":"g"}]}"#;
 
-const WORDS: &str = r#"{"scopeName":"source.t","patterns":[
+pub(crate) const WORDS: &str = r#"{"scopeName":"source.t","patterns":[
  {"match":"let","name":"keyword.t"},
  {"match":"x","name":"comment.t"}]}"#;
 
@@ -31,10 +31,10 @@ pub(crate) fn list(alloc: Global, texts: &[&str]) -> Result<Vec<String>, Fail> {
     Ok(list)
 }
 
-/// The files `s`, `g`, `t` and `e`: settings, grammar, text and script.
-pub(crate) fn files_of(alloc: Global, texts: [&str; 4], failing: &[u32]) -> Result<MemFiles, Fail> {
+/// The files `s`, `g`, `h`, `t` and `e`: settings, two grammars, text and script.
+pub(crate) fn files_in(alloc: Global, texts: [&str; 5], failing: &[u32]) -> Result<MemFiles, Fail> {
     let mut files = Vec::new(alloc);
-    for (name, text) in ["s", "g", "t", "e"].into_iter().zip(texts) {
+    for (name, text) in ["s", "g", "h", "t", "e"].into_iter().zip(texts) {
         let mut bytes = Vec::new(alloc);
         bytes.extend_from_slice(text.as_bytes())?;
         files.push((String::from_str(alloc, name)?, bytes))?;
@@ -44,7 +44,13 @@ pub(crate) fn files_of(alloc: Global, texts: [&str; 4], failing: &[u32]) -> Resu
     Ok(MemFiles::new(files, numbers))
 }
 
-fn sink_of(alloc: Global, failing: &[u32]) -> Result<MemSink, Fail> {
+/// The files `s`, `g`, `t` and `e`, with an empty second grammar that no settings name.
+pub(crate) fn files_of(alloc: Global, texts: [&str; 4], failing: &[u32]) -> Result<MemFiles, Fail> {
+    let [settings, grammar, text, script] = texts;
+    files_in(alloc, [settings, grammar, "", text, script], failing)
+}
+
+pub(crate) fn sink_of(alloc: Global, failing: &[u32]) -> Result<MemSink, Fail> {
     let mut numbers = Vec::new(alloc);
     numbers.extend_from_slice(failing)?;
     Ok(MemSink::new(Vec::new(alloc), numbers))
@@ -184,101 +190,6 @@ fn scripts_print(rt: HostRuntime) -> Result<(), Fail> {
     Ok(())
 }
 
-/// What each file may not be, and the first of them that is told.
-#[test]
-fn other_forms_are_refused(rt: HostRuntime) -> Result<(), Fail> {
-    let alloc = rt.alloc();
-    let rows: [([&str; 4], &str); 15] = [
-        (["", "", "\t", ""], "refused s: NotYet\n"),
-        (["{}", WORDS, "x", ""], "refused s: NotYet\n"),
-        (
-            [r#"{"settings":[]}"#, WORDS, "x", ""],
-            "refused s: NotYet\n",
-        ),
-        (
-            [
-                r#"{"settings":[{"grammar":"g"}],"budget":999}"#,
-                WORDS,
-                "x",
-                "",
-            ],
-            "refused s: NotYet\n",
-        ),
-        (
-            [
-                r#"{"settings":[{"grammar":"g","theme":"t"}]}"#,
-                WORDS,
-                "x",
-                "",
-            ],
-            "refused s: NotYet\n",
-        ),
-        ([SETTINGS, "", "\x07", "?"], "refused g: NotYet\n"),
-        (
-            [
-                SETTINGS,
-                r#"{"scopeName":"a","patterns":[{"match":"a","captures":{}}]}"#,
-                "x",
-                "",
-            ],
-            "refused g: NotYet\n",
-        ),
-        (
-            [
-                SETTINGS,
-                r#"{"scopeName":"a","patterns":[{"match":""}]}"#,
-                "x",
-                "",
-            ],
-            "refused g: NotYet\n",
-        ),
-        (
-            [
-                SETTINGS,
-                r#"{"scopeName":"a","patterns":[{"begin":"a","while":"b"}]}"#,
-                "x",
-                "",
-            ],
-            "refused g: NotYet\n",
-        ),
-        (
-            [
-                SETTINGS,
-                r#"{"scopeName":"a","patterns":[{"begin":"a"}]}"#,
-                "x",
-                "",
-            ],
-            "refused g: NotYet\n",
-        ),
-        ([SETTINGS, WORDS, "\x07", "?"], "refused t: NotYet\n"),
-        ([SETTINGS, WORDS, "a\rb", "?"], "refused t: NotYet\n"),
-        ([SETTINGS, WORDS, "é", "?"], "refused t: NotYet\n"),
-        ([SETTINGS, WORDS, "x", "?"], "refused e: NotYet\n"),
-        (
-            [
-                SETTINGS,
-                WORDS,
-                "x",
-                "{\"step\":\"line\"}\n{\"step\":\"force\"}",
-            ],
-            "refused e: NotYet\n",
-        ),
-    ];
-    for (texts, told) in rows {
-        let mut files = files_of(alloc, texts, &[])?;
-        let mut out = sink_of(alloc, &[])?;
-        let mut err = sink_of(alloc, &[])?;
-        assert_eq!(rt;
-            replays(alloc, &mut files, &mut out, &mut err)?,
-            4,
-            "{told}"
-        );
-        assert_eq!(rt; out.bytes(), b"".as_slice(), "{told}");
-        assert_eq!(rt; err.bytes(), told.as_bytes());
-    }
-    Ok(())
-}
-
 /// Reads and writes that fail, by number: the file and the front that each leaves.
 #[test]
 fn faults_of_the_outside_are_told(rt: HostRuntime) -> Result<(), Fail> {
@@ -324,7 +235,7 @@ fn words_choose_the_command(rt: HostRuntime) -> Result<(), Fail> {
     let alloc = rt.alloc();
     let usage =
         "usage: tm_prog scan SETTINGS FILE, replay SETTINGS FILE SCRIPT, live SETTINGS FILE SCRIPT, lint SETTINGS, gen N\n";
-    let rows: [(&[&str], u8, &str); 12] = [
+    let rows: [(&[&str], u8, &str); 16] = [
         (&["replay", "s", "t", "e"], 0, ""),
         (&[], 2, usage),
         (&["replay"], 2, usage),
@@ -337,6 +248,10 @@ fn words_choose_the_command(rt: HostRuntime) -> Result<(), Fail> {
         (&["scan", "s", "t", "e"], 2, usage),
         (&["Scan", "s", "t"], 2, usage),
         (&["scan", "s", "no"], 3, "cannot read no\n"),
+        (&["lint"], 2, usage),
+        (&["lint", "s", "t"], 2, usage),
+        (&["Lint", "s"], 2, usage),
+        (&["lint", "no"], 3, "cannot read no\n"),
     ];
     for (words, code, told) in rows {
         let mut files = files_of(alloc, [SETTINGS, WORDS, "x", "{\"step\":\"line\"}"], &[])?;

@@ -1,6 +1,5 @@
+pub mod Answered
 pub mod BuiltSteps
-pub mod Levels
-pub mod Numbered
-pub mod RuleWalk
+pub mod Later
 pub mod Utf8Texts
 pub mod Values

@@ -1,38 +1,56 @@
--- The grammar file, in the form that is built: match and begin/end rules, after the keys of TextMate 1.x (manual,
--- Language Grammars).
-use Rattle.std.specs.Prelude.{◌≡◌, ℕ, ◌≤◌, Some, List, ◌∷◌, Option, None, option_map, option_and_then, codes, nat_eq, if◌then◌else◌}
+-- The grammar file, in the form that is built: any grammar without captures, `while` rules and injections (TextMate 1.x
+-- manual, Language Grammars, with the keys of vscode-textmate).
+use Rattle.std.specs.Prelude.{ℕ, List, [], ◌∷◌, map, length, Bool, false, ◌||◌, nat_lt, Option, Some, None, is_some, Result}
 use Rattle.serde_json.specs.Data.{Data}
-use Rattle.serde_json.specs.Read.{read}
-use Rattle.serde_json.specs.Find.{get, as_array}
-use Rattle.tm_line.specs.Rules.{Only}
-use Rattle.tm_line.specs.Setting.{Setting, setting_of}
-use Rattle.tm_forms.specs.Json.{member_count, json_in}
-use Rattle.tm_forms.specs.Letters.{scope_name_of}
-use Rattle.tm_forms.specs.Rules.{Listed, listed, rules_at, deepest}
+use Rattle.tm_grammar.specs.File.{GrammarTree, grammar_of}
+use Rattle.tm_grammar.specs.Wrong.{wrong_in}
+use Rattle.tm_grammar.specs.declared.raw.RawRule.{RawRule}
+use Rattle.tm_grammar.specs.declared.raw.RawRule.TheOpen.{RawRule-F}
+use Rattle.tm_grammar.specs.declared.raw.RawRule.TheFolds.{fold-RawRule}
+use Rattle.tm_forms.specs.Json.{json_in}
+use Rattle.tm_forms.specs.Refusals.{json_answer, value_answer}
+use Rattle.tm_forms.specs.declared.form.Refusal.{Refusal}
 
-abbrev pub scope_of : Data → Option (List ℕ)
-scope_of d = option_and_then scope_name_of (get (codes "scopeName") d)
+-- whether one is true of a list's items
+abbrev pub some_item : List Bool → Bool
+some_item [] = false
+some_item (later ∷ rest) = later || some_item rest
 
--- the rules of `patterns`, from number 1 on, where rules nest less deep than the levels given
-abbrev pub patterns_within : ℕ → Data → Option Listed
-patterns_within levels d = option_and_then (listed (rules_at levels) 1) (option_and_then as_array (get (codes "patterns") d))
+abbrev pub some_listed : Option (List Bool) → Bool
+some_listed None = false
+some_listed (Some items) = some_item items
 
-abbrev pub patterns_of : Data → Option Listed
-patterns_of d = patterns_within deepest d
+-- whether one is true of what names stand for
+abbrev pub some_named : List (List ℕ × Bool) → Bool
+some_named [] = false
+some_named (named ∷ rest) = named.1 || some_named rest
 
--- more levels change nothing: of a text that is read no rule nests too deep
-abbrev pub HasLevelsEnough : Type 0
-HasLevelsEnough = (text : List ℕ) (d : Data) (levels : ℕ) → read text ≡ Some d → deepest ≤ levels → patterns_within levels d ≡ patterns_of d
+-- a rule with one of the keys that are not built yet, or with such a rule in its patterns or its repository
+abbrev pub later_by : RawRule-F Bool → Bool
+later_by r = is_some r.while_text || is_some r.captures || is_some r.begin_captures || is_some r.end_captures || is_some r.while_captures
+    || some_listed r.patterns || some_named r.repository
 
--- rule 0 is the root, which lists the grammar's patterns
-abbrev pub grammar_with : List ℕ → Listed → Setting
-grammar_with scope inside = setting_of scope (Only inside.numbers ∷ inside.rules)
+-- whether the rule, or one inside it at any depth, has such a key
+abbrev pub has_later : RawRule → Bool
+has_later = fold-RawRule Bool later_by
 
--- an object with the two keys `scopeName` and `patterns`
-abbrev pub grammar_of : Data → Option Setting
-grammar_of d = if nat_eq (member_count d) 2
-    then option_and_then (λ scope. option_map (grammar_with scope) (patterns_of d)) (scope_of d)
-    else None
+-- the same of a list, and of a repository
+abbrev pub has_later_item : List RawRule → Bool
+has_later_item rules = some_item (map has_later rules)
 
-abbrev pub grammar_in : List ℕ → Option Setting
-grammar_in bytes = option_and_then grammar_of (json_in bytes)
+abbrev pub has_later_listed : Option (List RawRule) → Bool
+has_later_listed None = false
+has_later_listed (Some rules) = has_later_item rules
+
+abbrev pub has_later_named : List (List ℕ × RawRule) → Bool
+has_later_named rules = some_named (map (λ t. (t.0, has_later t.1)) rules)
+
+-- a grammar that injects, that is injected, or that has such a rule
+abbrev pub is_later : GrammarTree → Bool
+is_later g = nat_lt 0 (length g.injections) || is_some g.injection_selector || has_later g.root
+
+abbrev pub grammar_from : Data → Result GrammarTree Refusal
+grammar_from d = value_answer (wrong_in d) (is_later (grammar_of d)) (grammar_of d)
+
+abbrev pub grammar_in : List ℕ → Result GrammarTree Refusal
+grammar_in bytes = json_answer grammar_from (json_in bytes)

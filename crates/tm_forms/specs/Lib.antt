@@ -1,10 +1,8 @@
+pub mod Checks
 pub mod Edits
 pub mod Grammar
 pub mod Json
-pub mod Letters
-pub mod Numbering
-pub mod Patterns
-pub mod Rules
+pub mod Refusals
 pub mod Script
 pub mod Settings
 pub mod Text

@@ -3,7 +3,7 @@ ghost use Rattle.std.specs.Prelude.{◌≡◌, option_map, option_and_then, IfOk
 ghost use Rattle.serde_json.specs.View.{view};
 ghost use Rattle.tm_forms.specs.Edits.{item_count, whole_number_of, number_at, plain_text_of, inserted_of, change_of};
 
-use crate::{letters, text};
+use crate::text;
 use serde_json::Value;
 use std::alloc::Global;
 use tm_defs::changes::Change;
@@ -11,7 +11,7 @@ use tm_defs::memory::OutOfMemory;
 use tm_defs::texts::Name;
 
 /// How many items a list has; 0 for another value.
-fn length_of(value: &Value) -> usize
+pub fn length_of(value: &Value) -> usize
     ensures { result ≡ item_count (view value.now) }
 {
     match value.as_array() {
@@ -62,7 +62,7 @@ fn inserted(alloc: Global, value: &Value) -> Result<Option<Name>, OutOfMemory>
         .and_then(plain_text)
     {
         Some(text) => {
-            let chars = letters::chars_of(alloc, text.as_bytes())?;
+            let chars = text::chars_of(alloc, text.as_bytes())?;
             Ok(Some(Name::new(chars)))
         }
         None => Ok(None),

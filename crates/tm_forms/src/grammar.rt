@@ -1,134 +1,95 @@
-//! The grammar file. It is read into rules by number, the form that the tokenizer takes; two laws say
-//! that the numbers mean what the file says, and that no grammar nests too deep for the walk.
-ghost use Rattle.std.specs.Prelude.{◌≡◌, ◌∷◌, option_map, option_and_then, IfOk};
-ghost use Rattle.serde_json.specs.View.{view};
-ghost use Rattle.tm_line.specs.Rules.{Only, rules_data};
-ghost use Rattle.tm_line.specs.Setting.{setting_data};
-ghost use Rattle.tm_forms.specs.Grammar.{grammar_in, grammar_of, scope_of, patterns_of, HasLevelsEnough};
-ghost use Rattle.tm_forms.specs.Numbering.{AreWellNumbered};
-ghost use Rattle.tm_forms.specs.Rules.{listed_of};
+//! The grammar file, which `tm_grammar` reads as a raw tree.
+ghost use Rattle.std.specs.Prelude.{◌≡◌, Ok, Err, if◌then◌else◌};
+ghost use Rattle.tm_forms.specs.declared.form.Refusal.TheVariants.{NotYet};
+ghost use Rattle.tm_forms.specs.Grammar.{has_later, has_later_listed, has_later_named, is_later};
 
-use crate::form::Form;
-use crate::rules::Inside;
-use crate::{json, letters, rules};
-use serde_json::Value;
+use crate::form::{Form, Refusal};
+use crate::utf8;
 use std::alloc::Global;
-use std::marker::Model;
 use tm_defs::memory::OutOfMemory;
-use tm_defs::rules::Numbers;
 use tm_defs::texts::Name;
-use tm_line::rules::Rule;
-use tm_line::tokenizer::Setting;
+use tm_grammar::fault::JsonFault;
+use tm_grammar::grammar::RawGrammar;
+use tm_grammar::raw::{RawList, RawRule};
 
-/// A grammar: its scope, and its rules by number. Rule 0 is the root, which lists the grammar's
-/// patterns; the others follow in the order of the file, each before those inside it.
-#[derive(Drop)]
-pub struct Grammar {
-    scope: Name,
-    rules: Vec<Rule>,
-}
-
-impl Model for Grammar {
-    ghost use Rattle.tm_line.specs.Setting.{BuiltSetting};
-
-    ghost Value = { BuiltSetting };
-
-    ghost view = { λ a. record { scope = a.scope; rules = a.rules.items } };
-}
-
-impl Grammar {
-    /// The scope of every line.
-    pub fn scope(&self) -> &Name
-        ensures { result.now ≡ self.now.scope }
-    {
-        &self.scope
-    }
-
-    /// The rules by number.
-    pub fn rules(&self) -> &[Rule]
-        ensures { result.now ≡ self.now.rules }
-    {
-        self.rules.as_slice()
-    }
-
-    /// The tokenizer of this grammar, with its patterns read.
-    pub fn into_setting(self, alloc: Global) -> Result<Setting, OutOfMemory>
-        ensures { IfOk result (λ setting. setting_data setting ≡ setting_data self) }
-    {
-        Setting::build(alloc, self.scope, self.rules)
-    }
-}
-
-fn scope_in(alloc: Global, value: &Value) -> Result<Option<Name>, OutOfMemory>
-    ensures { IfOk result (λ name. name ≡ scope_of (view value.now)) }
+/// Whether a rule, or one inside it, has a key that is not built yet.
+#[cycle(later)]
+#[tactic(auto, using(crate::proofs::Later::opened))]
+fn has_later(raw: &RawRule) -> bool
+    ensures { result ≡ has_later raw.now }
 {
-    match value.get("scopeName") {
-        Some(name) => letters::scope_name(alloc, name),
-        None => Ok(None),
+    if raw.while_text.is_some() || raw.captures.is_some() || raw.begin_captures.is_some() {
+        return true;
     }
+    if raw.end_captures.is_some() || raw.while_captures.is_some() {
+        return true;
+    }
+    later_listed(&raw.patterns) || later_named(raw.repository.as_slice())
 }
 
-fn patterns_in(alloc: Global, value: &Value) -> Result<Option<Inside>, OutOfMemory>
-    ensures { IfOk result (λ found. option_map (λ i. listed_of i.numbers i.rules) found ≡ patterns_of (view value.now)) }
+#[cycle(later)]
+fn later_listed(rules: &Option<RawList>) -> bool
+    ensures { result ≡ has_later_listed rules.now }
 {
-    match value.get("patterns").and_then(Value::as_array) {
-        Some(items) => rules::listed_in(alloc, 128, 1, items.as_slice()),
-        None => Ok(None),
-    }
-}
-
-/// The rules with the root before them.
-fn with_root(alloc: Global, inside: Inside) -> Result<Vec<Rule>, OutOfMemory>
-    ensures { IfOk result (λ rules. rules_data rules.items ≡ Only inside.numbers.items ∷ rules_data inside.rules.items) }
-{
-    let Inside { numbers, mut rules } = inside;
-    let mut all = Vec::new(alloc);
-    all.push(Rule::Only {
-        patterns: Numbers::new(numbers),
-    })?;
-    all.append(&mut rules)?;
-    Ok(all)
-}
-
-fn grammar_from(alloc: Global, value: &Value) -> Result<Option<Grammar>, OutOfMemory>
-    ensures { IfOk result (λ found. option_map setting_data found ≡ grammar_of (view value.now)) }
-{
-    if json::size_of(value) != 2 {
-        return Ok(None);
-    }
-    let Some(scope) = scope_in(alloc, value)? else {
-        return Ok(None);
+    let Some(rules) = rules else {
+        return false;
     };
-    let Some(inside) = patterns_in(alloc, value)? else {
-        return Ok(None);
-    };
-    let rules = with_root(alloc, inside)?;
-    Ok(Some(Grammar { scope, rules }))
+    let all = rules.as_slice();
+    for i in 0..all.len() {
+        if has_later(&all[i]) {
+            return true;
+        }
+    }
+    false
 }
 
-impl Form for Grammar {
-    ghost use Rattle.tm_line.specs.Setting.{Setting, setting_data};
+#[cycle(later)]
+fn later_named(rules: &[(Name, RawRule)]) -> bool
+    ensures { result ≡ has_later_named rules.now }
+{
+    for i in 0..rules.len() {
+        if has_later(&rules[i].1) {
+            return true;
+        }
+    }
+    false
+}
 
-    ghost Plain = { Setting };
+/// Whether a grammar is of a form that is not built yet.
+fn is_later(grammar: &RawGrammar) -> bool
+    ensures { result ≡ is_later grammar.now }
+{
+    grammar.injections().len() > 0
+        || grammar.injection_selector().is_some()
+        || has_later(grammar.root())
+}
 
-    ghost plain = { setting_data };
+fn built(grammar: RawGrammar) -> Result<RawGrammar, Refusal>
+    ensures { result ≡ (if is_later grammar then Err NotYet else Ok grammar) }
+{
+    if is_later(&grammar) {
+        Err(Refusal::NotYet)
+    } else {
+        Ok(grammar)
+    }
+}
+
+impl Form for RawGrammar {
+    ghost use Rattle.tm_grammar.specs.File.{GrammarTree};
+    ghost use Rattle.tm_forms.specs.Grammar.{grammar_in};
+
+    ghost Plain = { GrammarTree };
+
+    ghost plain = { λ grammar. grammar };
 
     ghost form = { grammar_in };
 
-    fn read(alloc: Global, bytes: &[u8]) -> Result<Option<Self>, OutOfMemory> {
-        match json::value_of(alloc, bytes)? {
-            Some(value) => grammar_from(alloc, &value),
-            None => Ok(None),
+    fn read(alloc: Global, bytes: &[u8]) -> Result<Result<Self, Refusal>, OutOfMemory> {
+        match RawGrammar::from_slice(alloc, utf8::skip_mark(bytes)) {
+            Ok(grammar) => Ok(built(grammar)),
+            Err(JsonFault::NotJson) => Ok(Err(Refusal::NotJson)),
+            Err(JsonFault::BadShape(path)) => Ok(Err(Refusal::BadShape(path))),
+            Err(JsonFault::OutOfMemory) => Err(OutOfMemory),
         }
     }
 }
-
-/// Says that the walk over the rules has levels enough for every file: it does nothing.
-pub fn levels_suffice()
-    ensures { HasLevelsEnough }
-{}
-
-/// Says that the rule of each number is what the file lists at its place: it does nothing.
-pub fn rules_have_their_numbers()
-    ensures { AreWellNumbered }
-{}

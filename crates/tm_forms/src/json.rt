@@ -1,9 +1,8 @@
-//! Looks into JSON values where no member may be overlooked: the form "exactly these keys" is a count
-//! of members and a look at each key.
-ghost use Rattle.std.specs.Prelude.{◌≡◌, option_map, IfOk};
+//! JSON texts and files, and looks into their values.
+ghost use Rattle.std.specs.Prelude.{◌≡◌, option_map, option_and_then, unwrap_or, IfOk};
 ghost use Rattle.serde_json.specs.Read.{read};
-ghost use Rattle.serde_json.specs.View.{view};
-ghost use Rattle.tm_forms.specs.Json.{member_count, only_item, json_in, has_key};
+ghost use Rattle.serde_json.specs.View.{view, items_view};
+ghost use Rattle.tm_forms.specs.Json.{json_in, has_key, items_at};
 
 use crate::utf8;
 use serde_json::Value;
@@ -36,35 +35,19 @@ pub fn value_of(alloc: Global, bytes: &[u8]) -> Result<Option<Value>, OutOfMemor
     }
 }
 
-/// How many members an object has; 0 for another value.
-pub fn size_of(value: &Value) -> usize
-    ensures { result ≡ member_count (view value.now) }
-{
-    match value.as_object() {
-        Some(map) => map.len(),
-        None => 0,
-    }
-}
-
-/// The item of a list of one.
-pub fn only_item_of(value: &Value) -> Option<&Value>
-    ensures { option_map (λ v. view v.now) result ≡ only_item (view value.now) }
-{
-    match value.as_array() {
-        Some(items) => {
-            if items.len() == 1 {
-                Some(&items[0])
-            } else {
-                None
-            }
-        }
-        None => None,
-    }
-}
-
 /// Whether an object has a member with this key.
 pub fn has(value: &Value, key: &str) -> bool
     ensures { result ≡ has_key key.now (view value.now) }
 {
     value.get(key).is_some()
+}
+
+/// The items of the list at a key, and none where there is no list.
+pub fn items_at<'v>(value: &'v Value, key: &str) -> &'v [Value]
+    ensures { items_view result.now ≡ items_at key.now (view value.now) }
+{
+    match value.get(key).and_then(Value::as_array) {
+        Some(items) => items.as_slice(),
+        None => &[],
+    }
 }

@@ -1,16 +1,19 @@
-//! What the files of a run say: settings, a grammar, a text and a script, in the form that is built.
+//! What the files of a run say: settings, a grammar, a text and a script, in the form that is built, or
+//! why they are refused.
 //!
-//! Each kind of file has a definition of its form in `specs/`, from bytes to a value, and a reader
-//! that gives exactly this value, or none where the bytes are of another form.
+//! Each kind of file has a definition of its form in `specs/`, from bytes to a value or a refusal, and a
+//! reader that answers exactly this.
 #![tactic(auto)]
 
+#[cfg(test)]
+mod cases;
+mod checks;
 mod edits;
 pub mod form;
 pub mod grammar;
 mod json;
-mod letters;
-mod patterns;
-mod rules;
+mod kinds;
+mod paths;
 pub mod script;
 pub mod settings;
 #[cfg(test)]

@@ -6,7 +6,7 @@ ghost use Rattle.serde_json.specs.View.{view};
 ghost use Rattle.tm_forms.specs.Edits.{change_of};
 ghost use Rattle.tm_forms.specs.Script.{script_in, lines_in, steps_from, step_in, step_of, step_named, show_of, is_blank, is_built, scan_steps};
 
-use crate::form::Form;
+use crate::form::{Form, Refusal};
 use crate::{edits, json, text, utf8};
 use serde_json::Value;
 use std::alloc::Global;
@@ -176,26 +176,27 @@ fn lines_of(alloc: Global, text: &str) -> Result<Vec<&str>, OutOfMemory>
 }
 
 impl Form for Script {
-    ghost use Rattle.std.specs.Prelude.{List};
+    ghost use Rattle.std.specs.Prelude.{List, ok_or};
+    ghost use Rattle.tm_forms.specs.declared.form.Refusal.TheVariants.{NotYet};
     ghost use Rattle.tm_forms.specs.declared.script.Scripted.{Scripted};
 
     ghost Plain = { List Scripted };
 
     ghost plain = { λ script. script };
 
-    ghost form = { script_in };
+    ghost form = { λ bytes. ok_or (script_in bytes) NotYet };
 
-    fn read(alloc: Global, bytes: &[u8]) -> Result<Option<Self>, OutOfMemory> {
+    fn read(alloc: Global, bytes: &[u8]) -> Result<Result<Self, Refusal>, OutOfMemory> {
         if !text::short(bytes.len()) {
-            return Ok(None);
+            return Ok(Err(Refusal::NotYet));
         }
         let Some(text) = utf8::text_of(utf8::skip_mark(bytes)) else {
-            return Ok(None);
+            return Ok(Err(Refusal::NotYet));
         };
         let lines = lines_of(alloc, text)?;
         match steps_of(alloc, lines.as_slice())? {
-            Some(steps) => Ok(Some(Script { steps })),
-            None => Ok(None),
+            Some(steps) => Ok(Ok(Script { steps })),
+            None => Ok(Err(Refusal::NotYet)),
         }
     }
 }

@@ -1,10 +1,11 @@
-//! The settings file: which grammar tokenizes the text, and how much a line may cost.
-ghost use Rattle.std.specs.Prelude.{◌≡◌, option_map, option_and_then, string_bytes, IfOk};
-ghost use Rattle.serde_json.specs.View.{view};
-ghost use Rattle.tm_forms.specs.Settings.{settings_in, settings_of, grammar_file_of, budget_of, allowed_budget};
+//! The settings file: which grammars tokenize the text, and how much a line may cost.
+ghost use Rattle.std.specs.Prelude.{◌≡◌, codes, option_map, string_bytes, map, IfOk};
+ghost use Rattle.serde_json.specs.Find.{get};
+ghost use Rattle.serde_json.specs.View.{view, items_view};
+ghost use Rattle.tm_forms.specs.Settings.{is_theme, is_later_setting, has_later_setting, text_of, texts_of, files_of, all_files, budget_of, settings_of, settings_from, settings_in};
 
-use crate::form::Form;
-use crate::{edits, json, rules};
+use crate::form::{Form, Refusal};
+use crate::{edits, json, kinds};
 use serde_json::Value;
 use std::alloc::Global;
 use std::marker::Model;
@@ -13,33 +14,59 @@ use tm_defs::memory::OutOfMemory;
 /// The budget of a line where the file names none, in steps of plain search.
 const DEFAULT_BUDGET: u32 = 100_000_000;
 
-const LEAST_BUDGET: u32 = 1_000;
-
-const GREATEST_BUDGET: u32 = 1_000_000_000;
-
-/// One setting: the name of its grammar's file, which contracts see as its bytes, and the budget of a
-/// line.
+/// A setting: the names of grammar files as they stand in the settings, which contracts see as bytes.
 #[derive(Drop)]
-pub struct Settings {
+pub struct SettingFiles {
     grammar: String,
-    budget: u32,
+    grammars: Vec<String>,
 }
 
-impl Model for Settings {
-    ghost use Rattle.std.specs.Prelude.{string_bytes};
-    ghost use Rattle.tm_forms.specs.Settings.{SettingsData, settings_data};
+impl Model for SettingFiles {
+    ghost use Rattle.std.specs.Prelude.{string_bytes, map};
+    ghost use Rattle.tm_forms.specs.Settings.{SettingFilesData, setting_files};
 
-    ghost Value = { SettingsData };
+    ghost Value = { SettingFilesData };
 
-    ghost view = { λ a. settings_data (string_bytes a.grammar) a.budget };
+    ghost view = { λ a. setting_files (string_bytes a.grammar) (map string_bytes a.grammars.items) };
 }
 
-impl Settings {
-    /// The name of the grammar's file, as it stands in the settings.
+impl SettingFiles {
+    /// The name of the file of the grammar that tokenizes.
     pub fn grammar(&self) -> &str
         ensures { result.now ≡ self.now.grammar }
     {
         self.grammar.as_str()
+    }
+
+    /// The names of the files of further grammars, which includes may name.
+    pub fn grammars(&self) -> &[String]
+        ensures { map string_bytes result.now ≡ self.now.grammars }
+    {
+        self.grammars.as_slice()
+    }
+}
+
+/// A settings file: 1 to 64 settings, and the budget of a line.
+#[derive(Drop)]
+pub struct Settings {
+    settings: Vec<SettingFiles>,
+    budget: u32,
+}
+
+impl Model for Settings {
+    ghost use Rattle.tm_forms.specs.Settings.{SettingsData, settings_data};
+
+    ghost Value = { SettingsData };
+
+    ghost view = { λ a. settings_data a.settings.items a.budget };
+}
+
+impl Settings {
+    /// The settings in the order of the file.
+    pub fn settings(&self) -> &[SettingFiles]
+        ensures { result.now ≡ self.now.settings }
+    {
+        self.settings.as_slice()
     }
 
     /// How many steps of plain search a line may take.
@@ -50,50 +77,100 @@ impl Settings {
     }
 }
 
-fn grammar_file(value: &Value) -> Option<&str>
-    ensures { option_map (λ s. s.now) result ≡ grammar_file_of (view value.now) }
+fn has_theme(value: &Value) -> bool
+    ensures { result ≡ is_theme (get (codes "theme") (view value.now)) }
 {
-    if json::size_of(value) == 1 {
-        value.get("grammar").and_then(Value::as_str)
-    } else {
-        None
+    match value.get("theme") {
+        Some(theme) => !theme.is_null(),
+        None => false,
     }
 }
 
-fn allowed(budget: u32) -> Option<u32>
-    ensures { result ≡ allowed_budget budget }
+/// Whether a setting has a key that is not built yet.
+fn later_setting(value: &Value) -> bool
+    ensures { result ≡ is_later_setting (view value.now) }
 {
-    if LEAST_BUDGET <= budget && budget <= GREATEST_BUDGET {
-        Some(budget)
-    } else {
-        None
+    json::has(value, "injected")
+        || json::has(value, "languages")
+        || json::has(value, "unbalanced")
+        || has_theme(value)
+}
+
+fn later_among(items: &[Value]) -> bool
+    ensures { result ≡ has_later_setting (items_view items.now) }
+{
+    for item in items {
+        if later_setting(item) {
+            return true;
+        }
+    }
+    false
+}
+
+fn text_of(alloc: Global, value: Option<&Value>) -> Result<String, OutOfMemory>
+    ensures { IfOk result (λ text. string_bytes text ≡ text_of (option_map (λ v. view v.now) value.entry)) }
+{
+    match value.and_then(Value::as_str) {
+        Some(text) => Ok(String::from_str(alloc, text)?),
+        None => Ok(String::new(alloc)),
     }
 }
 
-fn budget_in(value: &Value) -> Option<u32>
+fn texts_of(alloc: Global, items: &[Value]) -> Result<Vec<String>, OutOfMemory>
+    ensures { IfOk result (λ texts. map string_bytes texts.items ≡ texts_of (items_view items.now)) }
+{
+    let mut texts = Vec::new(alloc);
+    for item in items {
+        texts.push(text_of(alloc, Some(item))?)?;
+    }
+    Ok(texts)
+}
+
+fn files_of(alloc: Global, value: &Value) -> Result<SettingFiles, OutOfMemory>
+    ensures { IfOk result (λ files. files ≡ files_of (view value.now)) }
+{
+    let grammar = text_of(alloc, value.get("grammar"))?;
+    let grammars = texts_of(alloc, json::items_at(value, "grammars"))?;
+    Ok(SettingFiles { grammar, grammars })
+}
+
+fn all_files(alloc: Global, items: &[Value]) -> Result<Vec<SettingFiles>, OutOfMemory>
+    ensures { IfOk result (λ all. all.items ≡ all_files (items_view items.now)) }
+{
+    let mut all = Vec::new(alloc);
+    for item in items {
+        all.push(files_of(alloc, item)?)?;
+    }
+    Ok(all)
+}
+
+fn budget_of(value: &Value) -> u32
     ensures { result ≡ budget_of (view value.now) }
 {
-    match value.get("budget") {
-        None => Some(DEFAULT_BUDGET),
-        Some(budget) => edits::whole_number(budget).and_then(allowed),
-    }
+    value
+        .get("budget")
+        .and_then(edits::whole_number)
+        .unwrap_or(DEFAULT_BUDGET)
 }
 
-fn settings_from(alloc: Global, value: &Value) -> Result<Option<Settings>, OutOfMemory>
-    ensures { IfOk result (λ found. found ≡ settings_of (view value.now)) }
+fn settings_of(alloc: Global, value: &Value) -> Result<Settings, OutOfMemory>
+    ensures { IfOk result (λ settings. settings ≡ settings_of (view value.now)) }
 {
-    if json::size_of(value) != 1 + rules::count_of(json::has(value, "budget")) {
-        return Ok(None);
+    let settings = all_files(alloc, json::items_at(value, "settings"))?;
+    let budget = budget_of(value);
+    Ok(Settings { settings, budget })
+}
+
+fn settings_from(alloc: Global, value: &Value) -> Result<Result<Settings, Refusal>, OutOfMemory>
+    ensures { IfOk result (λ found. found ≡ settings_from (view value.now)) }
+{
+    if let Some(path) = kinds::wrong_in(alloc, value)? {
+        return Ok(Err(Refusal::BadShape(path)));
     }
-    let item = value.get("settings").and_then(json::only_item_of);
-    let Some(name) = item.and_then(grammar_file) else {
-        return Ok(None);
-    };
-    let Some(budget) = budget_in(value) else {
-        return Ok(None);
-    };
-    let grammar = String::from_str(alloc, name)?;
-    Ok(Some(Settings { grammar, budget }))
+    if later_among(json::items_at(value, "settings")) {
+        return Ok(Err(Refusal::NotYet));
+    }
+    Ok(Ok(settings_of(alloc, value)?))
 }
 
 impl Form for Settings {
@@ -105,10 +182,10 @@ impl Form for Settings {
 
     ghost form = { settings_in };
 
-    fn read(alloc: Global, bytes: &[u8]) -> Result<Option<Self>, OutOfMemory> {
+    fn read(alloc: Global, bytes: &[u8]) -> Result<Result<Self, Refusal>, OutOfMemory> {
         match json::value_of(alloc, bytes)? {
             Some(value) => settings_from(alloc, &value),
-            None => Ok(None),
+            None => Ok(Err(Refusal::NotJson)),
         }
     }
 }

@@ -1,27 +1,26 @@
-ghost use Rattle.std.specs.Prelude.{◌≡◌, IfOk, is_some};
+ghost use Rattle.std.specs.Prelude.{◌≡◌, IfOk, is_ok};
 
-use crate::form::Form;
-use crate::grammar::Grammar;
+use crate::cases;
+use crate::form::{Form, Refusal};
 use crate::script::{Script, ScriptStep, Scripted};
-use crate::settings::Settings;
+use crate::settings::{SettingFiles, Settings};
 use crate::text::TextFile;
 use std::alloc::{AllocError, Global};
 use std::test::Fail;
 use tm_defs::events::Step;
 use tm_defs::memory::OutOfMemory;
-use tm_defs::rules::Numbers;
-use tm_defs::texts::{Line, Name};
-use tm_line::rules::Rule;
+use tm_defs::texts::Name;
+use tm_grammar::grammar::RawGrammar;
 
 /// The values may cross threads.
 fn crosses<T: Send + Sync>(_: &T) {}
 
-/// Whether the bytes of a file are of a form.
+/// Whether the bytes of a file are of a form that is built.
 fn is_of_form<X: Form + Drop>(alloc: Global, bytes: &[u8]) -> Result<bool, OutOfMemory>
-    ensures { IfOk result (λ is. is ≡ is_some (X.form bytes.now)) }
+    ensures { IfOk result (λ is. is ≡ is_ok (X.form bytes.now)) }
 {
     match X::read(alloc, bytes) {
-        Ok(found) => Ok(found.is_some()),
+        Ok(found) => Ok(found.is_ok()),
         Err(fault) => Err(fault),
     }
 }
@@ -31,68 +30,171 @@ fn filled(alloc: Global, count: usize) -> Result<Vec<u8>, AllocError> {
 }
 
 fn push_name(text: &mut String, name: &Name) -> Result<(), AllocError> {
-    text.push(' ')?;
     for c in name.as_slice() {
         text.push(*c)?;
     }
     Ok(())
 }
 
-fn push_optional(text: &mut String, name: &Option<Name>) -> Result<(), AllocError> {
-    match name {
-        Some(name) => push_name(text, name),
-        None => {
-            text.push_str(" -")?;
-            Ok(())
+/// Why a file is refused, in one text.
+fn refusal_text(alloc: Global, refusal: &Refusal) -> Result<String, AllocError> {
+    match refusal {
+        Refusal::NotJson => String::from_str(alloc, "NotJson"),
+        Refusal::BadShape(path) => {
+            let mut text = String::from_str(alloc, "BadShape(")?;
+            push_name(&mut text, path)?;
+            text.push(')')?;
+            Ok(text)
         }
+        Refusal::NotYet => String::from_str(alloc, "NotYet"),
     }
 }
 
-fn push_numbers(alloc: Global, text: &mut String, numbers: &Numbers) -> Result<(), AllocError> {
-    for number in numbers.as_slice() {
-        text.push_str(format!(in alloc; " {number}")?.as_str())?;
+fn push_files(text: &mut String, files: &SettingFiles) -> Result<(), AllocError> {
+    text.push(' ')?;
+    text.push_str(files.grammar())?;
+    text.push('(')?;
+    for grammar in files.grammars() {
+        text.push_str(grammar.as_str())?;
+        text.push(';')?;
+    }
+    text.push(')')
+}
+
+/// The budget of settings, and each setting's grammar with the further ones in parentheses.
+fn settings_text(alloc: Global, settings: &Settings) -> Result<String, AllocError> {
+    crosses(settings);
+    let budget = settings.budget();
+    let mut text = format!(in alloc; "{budget}")?;
+    for files in settings.settings() {
+        push_files(&mut text, files)?;
+    }
+    Ok(text)
+}
+
+/// What is answered of a settings file, in one text.
+fn settings_answer(alloc: Global, bytes: &[u8]) -> Result<String, Fail> {
+    match Settings::read(alloc, bytes)? {
+        Ok(settings) => Ok(settings_text(alloc, &settings)?),
+        Err(refusal) => Ok(refusal_text(alloc, &refusal)?),
+    }
+}
+
+/// The scope of a grammar, and how many rules its patterns list.
+fn grammar_text(alloc: Global, grammar: &RawGrammar) -> Result<String, AllocError> {
+    let mut text = String::new(alloc);
+    push_name(&mut text, grammar.scope_name())?;
+    let count = match &grammar.root().patterns {
+        Some(rules) => rules.as_slice().len(),
+        None => 0,
+    };
+    text.push_str(format!(in alloc; " {count}")?.as_str())?;
+    Ok(text)
+}
+
+/// What is answered of a grammar file, in one text.
+fn grammar_answer(alloc: Global, bytes: &[u8]) -> Result<String, Fail> {
+    match RawGrammar::read(alloc, bytes)? {
+        Ok(grammar) => Ok(grammar_text(alloc, &grammar)?),
+        Err(refusal) => Ok(refusal_text(alloc, &refusal)?),
+    }
+}
+
+/// The settings files with another answer than the one that stands behind them.
+fn missed_settings(alloc: Global) -> Result<String, Fail> {
+    let mut missed = String::new(alloc);
+    for line in cases::SETTINGS.lines() {
+        let Some((file, want)) = line.split_once(" => ") else {
+            missed.push_str(line)?;
+            continue;
+        };
+        let found = settings_answer(alloc, file.as_bytes())?;
+        if found.as_str() != want {
+            missed.push_str(format!(in alloc; "{file}: {found}\n")?.as_str())?;
+        }
+    }
+    Ok(missed)
+}
+
+/// The same of a setting with one key of a wrong value.
+fn missed_keys(alloc: Global) -> Result<String, Fail> {
+    let mut missed = String::new(alloc);
+    for line in cases::WRONG_KEYS.lines() {
+        let Some((member, path)) = line.split_once(" => ") else {
+            missed.push_str(line)?;
+            continue;
+        };
+        let file = format!(in alloc; "{{\"settings\":[{{\"grammar\":\"g\",{member}}}]}}")?;
+        let want = format!(in alloc; "BadShape(/settings/0/{path})")?;
+        let found = settings_answer(alloc, file.as_bytes())?;
+        if found.as_str() != want.as_str() {
+            missed.push_str(format!(in alloc; "{file}: {found}\n")?.as_str())?;
+        }
+    }
+    Ok(missed)
+}
+
+/// A settings file with so many settings.
+fn many(alloc: Global, count: u32) -> Result<String, AllocError> {
+    let mut text = String::from_str(alloc, "{\"settings\":[{\"grammar\":\"g\"}")?;
+    for _ in 1..count {
+        text.push_str(",{\"grammar\":\"g\"}")?;
+    }
+    text.push_str("]}")?;
+    Ok(text)
+}
+
+#[test]
+fn settings_and_their_answers(rt: HostRuntime) -> Result<(), Fail> {
+    let alloc = rt.alloc();
+    assert_eq!(rt; missed_settings(alloc)?.as_str(), "");
+    assert_eq!(rt; missed_keys(alloc)?.as_str(), "");
+    for (file, want) in cases::BYTES_OF_SETTINGS {
+        assert_eq!(rt; settings_answer(alloc, file)?.as_str(), want);
     }
     Ok(())
 }
 
-/// The scope and the rules of a grammar, in one line.
-fn grammar_text(alloc: Global, bytes: &[u8]) -> Result<String, Fail> {
-    let mut text = String::new(alloc);
-    let Some(grammar) = Grammar::read(alloc, bytes)? else {
-        return Ok(text);
+/// As many settings as a file may list, and one more.
+#[test]
+fn counts_of_settings(rt: HostRuntime) -> Result<(), Fail> {
+    let alloc = rt.alloc();
+    let most = many(alloc, 64)?;
+    let Ok(settings) = Settings::read(alloc, most.as_bytes())? else {
+        assert!(rt; false);
+        return Ok(());
     };
-    crosses(&grammar);
-    push_name(&mut text, grammar.scope())?;
-    for rule in grammar.rules() {
-        match rule {
-            Rule::Match { pattern, name } => {
-                text.push_str(", match")?;
-                push_name(&mut text, pattern)?;
-                push_optional(&mut text, name)?;
-            }
-            Rule::BeginEnd {
-                begin,
-                end,
-                name,
-                content_name,
-                patterns,
-            } => {
-                text.push_str(", begin")?;
-                push_name(&mut text, begin)?;
-                push_name(&mut text, end)?;
-                push_optional(&mut text, name)?;
-                push_optional(&mut text, content_name)?;
-                push_numbers(alloc, &mut text, patterns)?;
-            }
-            Rule::Only { patterns } => {
-                text.push_str(", only")?;
-                push_numbers(alloc, &mut text, patterns)?;
-            }
+    assert_eq!(rt; settings.settings().len(), 64);
+    let more = many(alloc, 65)?;
+    let found = settings_answer(alloc, more.as_bytes())?;
+    assert_eq!(rt; found.as_str(), "BadShape(/settings)");
+    Ok(())
+}
+
+/// The grammar files with another answer than the one that stands behind them.
+fn missed_grammars(alloc: Global) -> Result<String, Fail> {
+    let mut missed = String::new(alloc);
+    for line in cases::GRAMMARS.lines() {
+        let Some((file, want)) = line.split_once(" => ") else {
+            missed.push_str(line)?;
+            continue;
+        };
+        let found = grammar_answer(alloc, file.as_bytes())?;
+        if found.as_str() != want {
+            missed.push_str(format!(in alloc; "{file}: {found}\n")?.as_str())?;
         }
     }
-    let setting = grammar.into_setting(alloc)?;
-    crosses(&setting);
-    Ok(text)
+    Ok(missed)
+}
+
+#[test]
+fn grammars_and_their_answers(rt: HostRuntime) -> Result<(), Fail> {
+    let alloc = rt.alloc();
+    assert_eq!(rt; missed_grammars(alloc)?.as_str(), "");
+    for (file, want) in cases::BYTES_OF_GRAMMARS {
+        assert_eq!(rt; grammar_answer(alloc, file)?.as_str(), want);
+    }
+    Ok(())
 }
 
 fn push_step(alloc: Global, text: &mut String, step: &Scripted) -> Result<(), AllocError> {
@@ -103,6 +205,7 @@ fn push_step(alloc: Global, text: &mut String, step: &Scripted) -> Result<(), Al
             let (a, b) = (change.from_line, change.from_col);
             let (c, d) = (change.to_line, change.to_col);
             text.push_str(format!(in alloc; " edit {a} {b} {c} {d}")?.as_str())?;
+            text.push(' ')?;
             push_name(text, &change.text)
         }
         ScriptStep::Core(Step::Line) => {
@@ -135,158 +238,17 @@ fn push_steps(alloc: Global, text: &mut String, steps: &[Scripted]) -> Result<()
     Ok(())
 }
 
-/// The steps of a script, in one line; "no" where it is of another form.
+/// The steps of a script, in one line, or why it is refused.
 fn script_text(alloc: Global, bytes: &[u8]) -> Result<String, Fail> {
-    let mut text = String::new(alloc);
-    let Some(script) = Script::read(alloc, bytes)? else {
-        text.push_str("no")?;
-        return Ok(text);
-    };
-    crosses(&script);
-    push_steps(alloc, &mut text, script.as_slice())?;
-    Ok(text)
-}
-
-const OTHER_SETTINGS: [&[u8]; 20] = [
-    b"",
-    b"[]",
-    b"{}",
-    b"{\"settings\":[]}",
-    b"{\"settings\":{\"grammar\":\"g\"}}",
-    b"{\"settings\":[\"g\"]}",
-    b"{\"settings\":[{\"grammar\":1}]}",
-    b"{\"settings\":[{\"grammar\":\"g\"},{\"grammar\":\"g\"}]}",
-    b"{\"settings\":[{\"grammar\":\"g\",\"theme\":null}]}",
-    b"{\"settings\":[{\"grammar\":\"g\"}],\"more\":1}",
-    b"{\"settings\":[{\"grammar\":\"g\"}],\"budget\":999}",
-    b"{\"settings\":[{\"grammar\":\"g\"}],\"budget\":1000000001}",
-    b"{\"settings\":[{\"grammar\":\"g\"}],\"budget\":1000.0}",
-    b"{\"settings\":[{\"grammar\":\"g\"}],\"budget\":null}",
-    b"{\"settings\":[{\"grammar\":\"g\"}],\"budget\":\"1000\"}",
-    b"{\"settings\":[{\"grammar\":\"g\"}],\"budget\":1000,\"more\":1}",
-    b"{\"budget\":1000}",
-    b"{\"settings\":[{\"grammar\":\"g\"}]",
-    b"{\"settings\":[{\"grammar\":\"\xff\"}]}",
-    b"\xef\xbb\xbf\xef\xbb\xbf{\"settings\":[{\"grammar\":\"g\"}]}",
-];
-
-#[test]
-fn settings_of_their_form(rt: HostRuntime) -> Result<(), Fail> {
-    let alloc = rt.alloc();
-    let rows = [
-        (
-            "{\"settings\":[{\"grammar\":\"g.json\"}]}",
-            "g.json",
-            100_000_000,
-        ),
-        (
-            "{\"budget\":1000,\"settings\":[{\"grammar\":\"g\"}]}",
-            "g",
-            1_000,
-        ),
-        (
-            "{\"settings\":[{\"grammar\":\"g\"}],\"budget\":1000000000}",
-            "g",
-            1_000_000_000,
-        ),
-        (
-            "\u{feff} {\"settings\" : [ {\"grammar\":\"a b\"} ] }\r\n",
-            "a b",
-            100_000_000,
-        ),
-        ("{\"settings\":[{\"grammar\":\"\"}]}", "", 100_000_000),
-        (
-            "{\"settings\":1,\"settings\":[{\"grammar\":\"\\u0061\"}]}",
-            "a",
-            100_000_000,
-        ),
-    ];
-    for (file, want, budget) in rows {
-        let found = Settings::read(alloc, file.as_bytes())?;
-        let Some(settings) = found else {
-            assert!(rt; false, "{file}");
-            return Ok(());
-        };
-        crosses(&settings);
-        assert_eq!(rt; settings.grammar(), want, "{file}");
-        assert_eq!(rt; settings.budget(), budget, "{file}");
+    match Script::read(alloc, bytes)? {
+        Ok(script) => {
+            crosses(&script);
+            let mut text = String::new(alloc);
+            push_steps(alloc, &mut text, script.as_slice())?;
+            Ok(text)
+        }
+        Err(refusal) => Ok(refusal_text(alloc, &refusal)?),
     }
-    for file in OTHER_SETTINGS {
-        assert!(rt; !is_of_form::<Settings>(alloc, file)?);
-    }
-    Ok(())
-}
-
-const OTHER_GRAMMARS: [&str; 25] = [
-    "{\"patterns\":[]}",
-    "{\"scopeName\":\"s\"}",
-    "{\"scopeName\":\"\",\"patterns\":[]}",
-    "{\"scopeName\":\"S\",\"patterns\":[]}",
-    "{\"scopeName\":\"s\",\"patterns\":{}}",
-    "{\"scopeName\":\"s\",\"patterns\":[],\"name\":\"n\"}",
-    "{\"scopeName\":\"s\",\"patterns\":[\"a\"]}",
-    "{\"scopeName\":\"s\",\"patterns\":[{}]}",
-    "{\"scopeName\":\"s\",\"patterns\":[{\"match\":\"\"}]}",
-    "{\"scopeName\":\"s\",\"patterns\":[{\"match\":1}]}",
-    "{\"scopeName\":\"s\",\"patterns\":[{\"match\":\"a\",\"name\":\"\"}]}",
-    "{\"scopeName\":\"s\",\"patterns\":[{\"match\":\"a\",\"name\":\"N\"}]}",
-    "{\"scopeName\":\"s\",\"patterns\":[{\"match\":\"a\",\"name\":null}]}",
-    "{\"scopeName\":\"s\",\"patterns\":[{\"match\":\"a\",\"more\":1}]}",
-    "{\"scopeName\":\"s\",\"patterns\":[{\"match\":\"a\",\"patterns\":[]}]}",
-    "{\"scopeName\":\"s\",\"patterns\":[{\"match\":\"a\",\"begin\":\"b\",\"end\":\"e\"}]}",
-    "{\"scopeName\":\"s\",\"patterns\":[{\"begin\":\"b\"}]}",
-    "{\"scopeName\":\"s\",\"patterns\":[{\"end\":\"e\"}]}",
-    "{\"scopeName\":\"s\",\"patterns\":[{\"begin\":\"b\",\"end\":\"\"}]}",
-    "{\"scopeName\":\"s\",\"patterns\":[{\"begin\":\"\",\"end\":\"e\"}]}",
-    "{\"scopeName\":\"s\",\"patterns\":[{\"begin\":\"b\",\"end\":\"e\",\"contentName\":\"I\"}]}",
-    "{\"scopeName\":\"s\",\"patterns\":[{\"match\":\"a\",\"contentName\":\"i\"}]}",
-    "{\"scopeName\":\"s\",\"patterns\":[{\"begin\":\"b\",\"end\":\"e\",\"patterns\":1}]}",
-    "{\"scopeName\":\"s\",\"patterns\":[{\"begin\":\"b\",\"end\":\"e\",\"patterns\":[{}]}]}",
-    "{\"scopeName\":\"s\",\"patterns\":[{\"begin\":\"b\",\"end\":\"e\",\"while\":\"w\"}]}",
-];
-
-const GRAMMARS: [(&str, &str); 7] = [
-    ("{\"scopeName\":\"s.t\",\"patterns\":[]}", " s.t, only"),
-    (
-        "\u{feff}{\"patterns\":[{\"match\":\"let\",\"name\":\"keyword.t\"},{\"match\":\"x\"}],\"scopeName\":\".\"}",
-        " ., only 1 2, match let keyword.t, match x -",
-    ),
-    (
-        "{\"scopeName\":\"s\",\"patterns\":[{\"begin\":\"q\",\"end\":\"p\",\"name\":\"c\",\"patterns\":[{\"match\":\"a\"},{\"begin\":\"b\",\"end\":\"e\",\"patterns\":[{\"match\":\"c\"}]},{\"match\":\"d\"}]},{\"begin\":\"z\",\"end\":\"z\"}]}",
-        " s, only 1 6, begin q p c - 2 3 5, match a -, begin b e - - 4, match c -, match d -, begin z z - -",
-    ),
-    (
-        "{\"scopeName\":\"s\",\"patterns\":[{\"match\":\"A\",\"match\":\"a\"}]}",
-        " s, only 1, match a -",
-    ),
-    (
-        "{\"scopeName\":\"s\",\"patterns\":[{\"match\":\"é\\\\+(\\\\d|x)\"},{\"begin\":\"\\\\b[b-d]+?\",\"end\":\"$a|d$\"}]}",
-        " s, only 1 2, match é\\+(\\d|x) -, begin \\b[b-d]+? $a|d$ - -",
-    ),
-    (
-        "{\"scopeName\":\"s\",\"patterns\":[{\"begin\":\"b\",\"end\":\"e\",\"contentName\":\"i\"},{\"begin\":\"b\",\"end\":\"e\",\"name\":\"n\",\"contentName\":\"i\",\"patterns\":[]}]}",
-        " s, only 1 2, begin b e - i, begin b e n i",
-    ),
-    (
-        "{\"scopeName\":\"s\",\"patterns\":[{\"match\":\"a(\"},{\"begin\":\"(?=a)\",\"end\":\"\\\\Gb*\"}]}",
-        " s, only 1 2, match a( -, begin (?=a) \\Gb* - -",
-    ),
-];
-
-#[test]
-fn grammars_of_their_form(rt: HostRuntime) -> Result<(), Fail> {
-    let alloc = rt.alloc();
-    for (file, want) in GRAMMARS {
-        assert_eq!(rt;
-            grammar_text(alloc, file.as_bytes())?.as_str(),
-            want,
-            "{file}"
-        );
-    }
-    for file in OTHER_GRAMMARS {
-        assert!(rt; !is_of_form::<Grammar>(alloc, file.as_bytes())?, "{file}");
-    }
-    Ok(())
 }
 
 const TEXTS: [(&[u8], bool); 10] = [
@@ -309,7 +271,7 @@ fn texts_of_their_form(rt: HostRuntime) -> Result<(), Fail> {
         assert_eq!(rt; is_of_form::<TextFile>(alloc, file)?, want);
     }
     let marked = TextFile::read(alloc, b"\xef\xbb\xbfa\n")?;
-    let Some(marked) = marked else {
+    let Ok(marked) = marked else {
         assert!(rt; false);
         return Ok(());
     };
@@ -330,7 +292,7 @@ const SCRIPTS: [(&str, &str); 35] = [
     (" \t\r\n\n", ""),
     ("{\"step\":\"line\"}", ", 0 line"),
     ("{\"step\":\"settle\"}", ", 0 settle"),
-    ("{\"step\":\"force\",\"line\":0}", "no"),
+    ("{\"step\":\"force\",\"line\":0}", "NotYet"),
     (
         "\u{feff}{\"step\":\"line\",\"more\":[1]}\r\n\t \r\n{\"step\":\"show\",\"at\":0}\n",
         ", 0 line, 2 show",
@@ -343,41 +305,62 @@ const SCRIPTS: [(&str, &str); 35] = [
         "{\"step\":\"show\",\"step\":\"line\",\"from\":0}",
         ", 0 line",
     ),
-    ("line", "no"),
-    ("\"line\"", "no"),
-    ("{\"step\":\"Line\"}", "no"),
-    ("{\"step\":1}", "no"),
-    ("{}", "no"),
-    ("{\"step\":\"drain\"}", "no"),
-    ("{\"step\":\"line\"} {\"step\":\"line\"}", "no"),
-    ("{\"step\":\"line\"}\r{\"step\":\"line\"}", "no"),
-    ("{\"step\":\n\"line\"}", "no"),
-    ("{\"step\":\"line\"}\n\u{feff}", "no"),
-    ("\u{feff}\u{feff}", "no"),
-    ("{\"step\":\"show\",\"from\":0}", "no"),
-    ("{\"step\":\"show\",\"to\":null}", "no"),
-    ("{\"step\":\"show\",\"from\":0,\"to\":1}", "no"),
-    ("{\"step\":\"edit\",\"at\":[0,0,0,0]}", "no"),
-    ("{\"step\":\"edit\",\"text\":\"\"}", "no"),
-    ("{\"step\":\"edit\",\"at\":[0,0,0],\"text\":\"\"}", "no"),
-    ("{\"step\":\"edit\",\"at\":[0,0,0,0,0],\"text\":\"\"}", "no"),
-    ("{\"step\":\"edit\",\"at\":[0,0,0,1.0],\"text\":\"\"}", "no"),
-    ("{\"step\":\"edit\",\"at\":[0,0,1e2,0],\"text\":\"\"}", "no"),
-    ("{\"step\":\"edit\",\"at\":[0,-1,0,0],\"text\":\"\"}", "no"),
-    ("{\"step\":\"edit\",\"at\":[0,-0,0,0],\"text\":\"\"}", "no"),
+    ("line", "NotYet"),
+    ("\"line\"", "NotYet"),
+    ("{\"step\":\"Line\"}", "NotYet"),
+    ("{\"step\":1}", "NotYet"),
+    ("{}", "NotYet"),
+    ("{\"step\":\"drain\"}", "NotYet"),
+    ("{\"step\":\"line\"} {\"step\":\"line\"}", "NotYet"),
+    ("{\"step\":\"line\"}\r{\"step\":\"line\"}", "NotYet"),
+    ("{\"step\":\n\"line\"}", "NotYet"),
+    ("{\"step\":\"line\"}\n\u{feff}", "NotYet"),
+    ("\u{feff}\u{feff}", "NotYet"),
+    ("{\"step\":\"show\",\"from\":0}", "NotYet"),
+    ("{\"step\":\"show\",\"to\":null}", "NotYet"),
+    ("{\"step\":\"show\",\"from\":0,\"to\":1}", "NotYet"),
+    ("{\"step\":\"edit\",\"at\":[0,0,0,0]}", "NotYet"),
+    ("{\"step\":\"edit\",\"text\":\"\"}", "NotYet"),
+    ("{\"step\":\"edit\",\"at\":[0,0,0],\"text\":\"\"}", "NotYet"),
+    (
+        "{\"step\":\"edit\",\"at\":[0,0,0,0,0],\"text\":\"\"}",
+        "NotYet",
+    ),
+    (
+        "{\"step\":\"edit\",\"at\":[0,0,0,1.0],\"text\":\"\"}",
+        "NotYet",
+    ),
+    (
+        "{\"step\":\"edit\",\"at\":[0,0,1e2,0],\"text\":\"\"}",
+        "NotYet",
+    ),
+    (
+        "{\"step\":\"edit\",\"at\":[0,-1,0,0],\"text\":\"\"}",
+        "NotYet",
+    ),
+    (
+        "{\"step\":\"edit\",\"at\":[0,-0,0,0],\"text\":\"\"}",
+        "NotYet",
+    ),
     (
         "{\"step\":\"edit\",\"at\":[4294967296,0,0,0],\"text\":\"\"}",
-        "no",
+        "NotYet",
     ),
     (
         "{\"step\":\"edit\",\"at\":[0,0,0,\"0\"],\"text\":\"\"}",
-        "no",
+        "NotYet",
     ),
-    ("{\"step\":\"edit\",\"at\":[0,0,0,0],\"text\":null}", "no"),
-    ("{\"step\":\"edit\",\"at\":[0,0,0,0],\"text\":\"é\"}", "no"),
+    (
+        "{\"step\":\"edit\",\"at\":[0,0,0,0],\"text\":null}",
+        "NotYet",
+    ),
+    (
+        "{\"step\":\"edit\",\"at\":[0,0,0,0],\"text\":\"é\"}",
+        "NotYet",
+    ),
     (
         "{\"step\":\"edit\",\"at\":[0,0,0,0],\"text\":\"\\r\"}",
-        "no",
+        "NotYet",
     ),
 ];
 

@@ -1,11 +1,11 @@
 //! The text file. Each byte of it is a character; later forms read UTF-8.
-ghost use Rattle.std.specs.Prelude.{◌≡◌, ◌≤◌, ◌&&◌, length, nat_le};
+ghost use Rattle.std.specs.Prelude.{◌≡◌, ◌≤◌, ◌&&◌, length, nat_le, ok_or, IfOk};
 ghost use Rattle.std.specs.List.{list_all};
 ghost use Rattle.tm_forms.specs.Text.{text_in, is_text_character, greatest_length};
 ghost use Rattle.tm_forms.specs.Utf8.{without_mark};
 
-use crate::form::Form;
-use crate::{letters, utf8};
+use crate::form::{Form, Refusal};
+use crate::utf8;
 use std::alloc::Global;
 use std::marker::Model;
 use tm_defs::memory::OutOfMemory;
@@ -57,24 +57,36 @@ pub(crate) fn short(length: usize) -> bool
     length <= 1_000_000
 }
 
+/// Each byte as a character.
+pub(crate) fn chars_of(alloc: Global, bytes: &[u8]) -> Result<Vec<char>, OutOfMemory>
+    ensures { IfOk result (λ chars. chars.items ≡ bytes.now) }
+{
+    let mut chars = Vec::new(alloc);
+    for byte in bytes {
+        chars.push(*byte as char)?;
+    }
+    Ok(chars)
+}
+
 impl Form for TextFile {
-    ghost use Rattle.std.specs.Prelude.{List, ℕ};
+    ghost use Rattle.std.specs.Prelude.{List, ℕ, ok_or};
+    ghost use Rattle.tm_forms.specs.declared.form.Refusal.TheVariants.{NotYet};
 
     ghost Plain = { List ℕ };
 
     ghost plain = { λ text. text };
 
-    ghost form = { text_in };
+    ghost form = { λ bytes. ok_or (text_in bytes) NotYet };
 
-    fn read(alloc: Global, bytes: &[u8]) -> Result<Option<Self>, OutOfMemory> {
+    fn read(alloc: Global, bytes: &[u8]) -> Result<Result<Self, Refusal>, OutOfMemory> {
         let text = utf8::skip_mark(bytes);
         if !short(bytes.len()) {
-            return Ok(None);
+            return Ok(Err(Refusal::NotYet));
         }
         if !all_text(text) {
-            return Ok(None);
+            return Ok(Err(Refusal::NotYet));
         }
-        let chars = letters::chars_of(alloc, text)?;
-        Ok(Some(TextFile { chars }))
+        let chars = chars_of(alloc, text)?;
+        Ok(Ok(TextFile { chars }))
     }
 }

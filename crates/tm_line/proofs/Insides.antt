@@ -1,61 +1,87 @@
--- What is searched inside a rule, while it is put together and where it is searched.
-use Rattle.std.proofs.Common.{◌≡◌, ℕ, zero, suc, ◌+◌, ◌<◌, ◌++◌, List, [], ◌∷◌, length, length-append, map, drop, get_or, Some, Option, refl, ap, sym, ◌∙◌, subst, arith, append_assoc, add-one, drop-cons, ◌⊎◌, inl, inr, ⊎_elim}
+-- What is searched inside a rule: the starts among its candidates, and its end.
+use Rattle.std.proofs.Common.{◌≡◌, ℕ, zero, suc, ◌+◌, ◌++◌, Bool, true, false, List, [], ◌∷◌, length, length-append, map, flat_map, Some, Option, refl, ap, sym, ◌∙◌, arith, ◌⊎◌, inl, inr, ⊎_elim, append-nil, subst}
 use Rattle.std.specs.Prelude.{slice_get}
-use Rattle.tm_onig_parse.specs.Reading.{parsed}
-use Rattle.tm_line.specs.Insides.{IsInside, IsInsideOf}
-use Rattle.tm_line.specs.Rules.{Rule, rules_data}
+use Rattle.std.proofs.lemmas.List.{map-append}
+use Rattle.tm_rules.specs.Candidates.{is_only, patterns_of, contributed, unopened, flattened, flattened_candidates, start_unless, unless_open, with_end}
+use Rattle.tm_rules.specs.declared.candidate.Candidate.{Candidate}
+use Rattle.tm_rules.specs.declared.candidate.Candidate.TheVariants.{Start, End}
+use Rattle.tm_rules.specs.declared.rule.Rule.{Rule}
+use Rattle.tm_rules.specs.declared.rule.Rule.TheVariants as R
+use Rattle.tm_line.specs.Insides.{numbers_in, end_last_of, with_end_if, IsInside, AreInsides}
 use Rattle.tm_line.specs.declared.inside.Inside.{Inside}
-use Rattle.tm_line.specs.declared.rules.Rule as code
-use Rattle.tm_line.specs.Search.{Candidate, patterns_in, rules_in, started_by, contributed, listed_candidates}
 
-map-append : {A B : Type 0} (f : A → B) (xs ys : List A) → map f (xs ++ ys) ≡ map f xs ++ map f ys
-map-append f [] ys = refl
-map-append f (x ∷ xs) ys = ap (λ l. f x ∷ l) (map-append f xs ys)
+-- candidates that are all starts
+abbrev pub AreStarts : List Candidate → Type 0
+AreStarts cs = cs ≡ map Start (numbers_in cs)
 
--- the patterns and the numbers so far, and what is left of a list of rules, are those of the list
-pub record IsAdding (rules : List Rule) (numbers rest : List ℕ) (texts : List (List ℕ)) (found : List ℕ) : Type 0 where
-  pub texts_are : map parsed texts ++ patterns_in (listed_candidates rules rest) ≡ patterns_in (listed_candidates rules numbers)
-  pub numbers_are : map Some found ++ rules_in (listed_candidates rules rest) ≡ rules_in (listed_candidates rules numbers)
+numbers_in-append : (xs ys : List Candidate) → numbers_in (xs ++ ys) ≡ numbers_in xs ++ numbers_in ys
+numbers_in-append [] ys = refl
+numbers_in-append (Start n ∷ xs) ys = ap (λ l. n ∷ l) (numbers_in-append xs ys)
+numbers_in-append (End ∷ xs) ys = numbers_in-append xs ys
 
-module _ {X : Type 0} (f : Candidate → X) (rules : List Rule) (numbers : List ℕ) (i : ℕ) (lt : i < length numbers) (have now : List X) where
-  abbrev n : ℕ
-  n = get_or numbers i 0
+starts-append : (xs ys : List Candidate) → AreStarts xs → AreStarts ys → AreStarts (xs ++ ys)
+starts-append xs ys h k =
+    ap (λ l. l ++ ys) h ∙ ap (λ l. map Start (numbers_in xs) ++ l) k
+    ∙ sym (ap (map Start) (numbers_in-append xs ys) ∙ map-append Start (numbers_in xs) (numbers_in ys))
 
-  abbrev one : List Candidate
-  one = contributed n (slice_get rules n)
+starts-flat_map : (f : ℕ → List Candidate) → ((n : ℕ) → AreStarts (f n)) → (ns : List ℕ) → AreStarts (flat_map f ns)
+starts-flat_map f h [] = refl
+starts-flat_map f h (n ∷ ns) = starts-append (f n) (flat_map f ns) (h n) (starts-flat_map f h ns)
 
-  abbrev rest : List Candidate
-  rest = listed_candidates rules (drop (i + 1) numbers)
+starts-start_unless : (b : Bool) (n : ℕ) → AreStarts (start_unless b n)
+starts-start_unless true n = refl
+starts-start_unless false n = refl
 
-  -- one rule more
-  more : now ≡ have ++ map f one → now ++ map f rest ≡ have ++ map f (listed_candidates rules (drop i numbers))
-  more e =
-      let split : drop i numbers ≡ n ∷ drop (i + 1) numbers = drop-cons numbers i 0 lt ∙ ap (λ k. n ∷ drop k numbers) (sym (add-one i)) in
-      ap (λ l. l ++ map f rest) e ∙ append_assoc have (map f one) (map f rest) ∙ ap (λ l. have ++ l) (sym (map-append f one rest))
-      ∙ ap (λ l. have ++ map f (listed_candidates rules l)) (sym split)
+starts-unless_open : (b : Bool) (f : ℕ → List Candidate) (ns : List ℕ) → ((n : ℕ) → AreStarts (f n)) → AreStarts (unless_open b f ns)
+starts-unless_open true f ns h = refl
+starts-unless_open false f ns h = starts-flat_map f h ns
 
-pub more-adding : (rules : List Rule) (numbers : List ℕ) (i : ℕ) → i < length numbers → (texts new : List (List ℕ)) (found now : List ℕ) → IsAdding rules numbers (drop i numbers) texts found →
-    let cs = contributed (get_or numbers i 0) (slice_get rules (get_or numbers i 0)) in
-    map parsed new ≡ map parsed texts ++ patterns_in cs → map Some now ≡ map Some found ++ rules_in cs → IsAdding rules numbers (drop (i + 1) numbers) new now
-more-adding rules numbers i lt texts new found now h e g = record {
-  texts_are = more (λ c. c.pattern) rules numbers i lt (map parsed texts) (map parsed new) e ∙ h.texts_are;
-  numbers_are = more (λ c. c.rule) rules numbers i lt (map Some found) (map Some now) g ∙ h.numbers_are;
-}
+module _ (rules : List Rule) where
+  starts-contributed : (depth : ℕ) (opened : List ℕ) (n : ℕ) → AreStarts (contributed rules depth opened n)
+  unfolding contributed
+  starts-contributed zero opened n = starts-start_unless (is_only (slice_get rules n)) n
+  starts-contributed (suc depth) opened n =
+      starts-append (start_unless (is_only (slice_get rules n)) n) _ (starts-start_unless (is_only (slice_get rules n)) n)
+      (starts-unless_open _ (contributed rules depth (n ∷ opened)) (patterns_of (slice_get rules n)) (starts-contributed depth (n ∷ opened)))
 
--- the candidates start the rules of these numbers
-pub started-numbers : (cs : List Candidate) (numbers : List ℕ) → map Some numbers ≡ rules_in cs → (n : ℕ) → started_by cs n ≡ slice_get numbers n
-started-numbers [] [] e n = refl
-started-numbers [] (m ∷ ms) e n = absurd cc
-started-numbers (c ∷ cs) [] e n = absurd cc
-started-numbers (c ∷ cs) (m ∷ ms) e zero = let first : Some m ≡ c.rule = cc in sym first
-started-numbers (c ∷ cs) (m ∷ ms) e (suc n) = let others : map Some ms ≡ rules_in cs = cc in started-numbers cs ms others n
+  starts-flattened : (ns : List ℕ) → AreStarts (flat_map (flattened rules []) ns)
+  starts-flattened ns = starts-flat_map (flattened rules []) (starts-contributed (unopened rules []) []) ns
+
+  -- the numbers are the same with an end among the candidates
+  numbers_in-end : (last : Bool) (cs : List Candidate) → numbers_in (with_end last cs) ≡ numbers_in cs
+  numbers_in-end true cs = numbers_in-append cs (End ∷ []) ∙ append-nil (numbers_in cs)
+  numbers_in-end false cs = refl
+
+  inside-with_end : (last : Bool) (cs : List Candidate) → AreStarts cs → with_end last cs ≡ with_end last (map Start (numbers_in (with_end last cs)))
+  inside-with_end last cs h = ap (with_end last) (h ∙ ap (map Start) (sym (numbers_in-end last cs)))
+
+  -- the candidates of a rule are its starts with its end
+  inside-listed : (n : ℕ) (r : Rule) (cs : List Candidate) → slice_get rules n ≡ Some r → cs ≡ flattened_candidates rules n → cs ≡ with_end_if (end_last_of r) (map Start (numbers_in cs))
+  inside-listed n (R.Match grammar path name content_name match_text captures) cs at e = is_in (e ∙ rw at refl)
+    where
+      is_in : cs ≡ [] → AreStarts cs
+      is_in f = rw f refl
+  inside-listed n (R.BeginEnd grammar path name content_name begin end_text end_last begin_captures end_captures patterns) cs at e =
+      is_in (e ∙ rw at refl)
+    where
+      is_in : cs ≡ with_end end_last (flat_map (flattened rules []) patterns) → cs ≡ with_end end_last (map Start (numbers_in cs))
+      is_in f = f ∙ inside-with_end end_last (flat_map (flattened rules []) patterns) (starts-flattened patterns) ∙ ap (λ l. with_end end_last (map Start (numbers_in l))) (sym f)
+  inside-listed n (R.BeginWhile grammar path name content_name begin while_text begin_captures while_captures patterns) cs at e =
+      subst AreStarts (sym (e ∙ rw at refl)) (starts-flattened patterns)
+  inside-listed n (R.Only grammar path name content_name patterns) cs at e =
+      subst AreStarts (sym (e ∙ rw at refl)) (starts-contributed (unopened rules []) [] n)
+
+  -- what is put together of them is what is searched inside
+  pub inside-made : (n : ℕ) (r : Rule) (cs : List Candidate) (numbers : List ℕ) (end_last : Option Bool) → slice_get rules n ≡ Some r → cs ≡ flattened_candidates rules n
+      → numbers ≡ numbers_in cs → end_last ≡ end_last_of r → flattened_candidates rules n ≡ with_end_if end_last (map Start numbers)
+  inside-made n r cs numbers end_last at e is last = sym e ∙ inside-listed n r cs at e ∙ rw (is, last) refl
 
 -- as many as were made so far are those of the first rules
-pub record IsMaking (rules : List code.Rule) (count : ℕ) (insides : List Inside) : Type 0 where
+pub record IsMaking (rules : List Rule) (count : ℕ) (insides : List Inside) : Type 0 where
   pub long : length insides ≡ count
-  pub right : (n : ℕ) (inside : Inside) → slice_get insides n ≡ Some inside → IsInsideOf (rules_data rules) (slice_get (rules_data rules) n) inside
+  pub right : (n : ℕ) (inside : Inside) → slice_get insides n ≡ Some inside → IsInside rules n inside
 
-pub none-made : (rules : List code.Rule) → IsMaking rules 0 []
+pub none-made : (rules : List Rule) → IsMaking rules 0 []
 none-made rules = record { long = refl; right = λ n inside e. absurd cc }
 
 -- what stands behind a list, or is one of it
@@ -65,15 +91,17 @@ behind [] y x (suc n) e = absurd cc
 behind (z ∷ zs) y x zero e = inl e
 behind (z ∷ zs) y x (suc n) e = ⊎_elim (λ h. inl h) (λ h. inr (ap suc h.0, h.1)) (behind zs y x n e)
 
-pub one-made : (rules : List code.Rule) (i : ℕ) (insides new : List Inside) (inside : Inside) (rule : Rule) → IsMaking rules i insides → new ≡ insides ++ inside ∷ [] → slice_get (rules_data rules) i ≡ Some rule →
-    IsInside (rules_data rules) rule inside → IsMaking rules (i + 1) new
-one-made rules i insides new inside rule h e at is = record {
+pub one-made : (rules : List Rule) (i : ℕ) (insides new : List Inside) (inside : Inside) → IsMaking rules i insides → new ≡ insides ++ inside ∷ [] → IsInside rules i inside → IsMaking rules (i + 1) new
+one-made rules i insides new inside h e is = record {
   long = omega (arith, ap length e, length-append insides (inside ∷ []), h.long);
   right = λ n x got. ⊎_elim (λ old. h.right n x old) (λ last. the_last n x last.0 last.1) (behind insides inside x n (sym (ap (λ l. slice_get l n) e) ∙ got));
 }
   where
-    the_last : (n : ℕ) (x : Inside) → n ≡ length insides → inside ≡ x → IsInsideOf (rules_data rules) (slice_get (rules_data rules) n) x
+    the_last : (n : ℕ) (x : Inside) → n ≡ length insides → inside ≡ x → IsInside rules n x
     the_last n x last same =
-        let P : Option Rule → Type 0 = λ r. IsInsideOf (rules_data rules) r inside in
-        let Q : Inside → Type 0 = λ y. IsInsideOf (rules_data rules) (slice_get (rules_data rules) n) y in
-        subst Q same (subst P (sym at ∙ ap (slice_get (rules_data rules)) (sym (last ∙ h.long))) is)
+        let P : ℕ → Type 0 = λ k. IsInside rules k inside in
+        let Q : Inside → Type 0 = λ y. IsInside rules n y in
+        subst Q same (subst P (sym (last ∙ h.long)) is)
+
+pub all-made : (rules : List Rule) (count : ℕ) (insides : List Inside) → count ≡ length rules → IsMaking rules count insides → AreInsides rules insides
+all-made rules count insides e h = record { long = h.long ∙ e; right = h.right }

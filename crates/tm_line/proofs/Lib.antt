@@ -1,11 +1,15 @@
 pub mod Budgets
+pub mod Candidates
 pub mod Causes
-pub mod Found
+pub mod FoundWithin
+pub mod GrownEnds
 pub mod Insides
+pub mod LineStarts
 pub mod Lines
+pub mod MadeEnds
 pub mod Opens
 pub mod Paths
-pub mod Starts
+pub mod ReadPatterns
 pub mod Tokens
 pub mod Turns
 pub mod Winners

@@ -1,14 +1,15 @@
 -- The earliest of candidates, part by part.
-use Rattle.std.proofs.Common.{◌≡◌, ℕ, suc, ◌+◌, ◌++◌, Bool, true, false, cond, nat_lt, List, [], ◌∷◌, Some, None, Option, refl, ap, sym, ◌∙◌, arith, add-one}
-use Rattle.std.specs.Prelude.{option_map, Result, Ok, Err, IfOk}
+use Rattle.std.proofs.Common.{◌≡◌, ℕ, suc, ◌+◌, ◌<◌, ◌≤◌, ◌++◌, Bool, true, false, cond, nat_lt, List, [], ◌∷◌, Some, None, Option, refl, ap, ap₂, sym, ◌∙◌, arith, add-one}
+use Rattle.std.specs.Prelude.{option_map, slice_get, Result, Ok, Err, IsErrOf}
+use Rattle.std.specs.Result.{IsErr, IsErrAnd}
 use Rattle.std.proofs.lemmas.Bool.Decides.{nat_tests}
 use Rattle.tm_onig_class.specs.Tree.{Tree}
 use Rattle.tm_onig_search.specs.Outcomes.{Caps}
 use Rattle.tm_onig_scan.specs.Winner as scan
 use Rattle.tm_onig_vm.specs.declared.fault.FindFault.{FindFault}
-use Rattle.tm_line.specs.declared.rules.Found.{Found}
+use Rattle.tm_line.specs.declared.found.Found.{Found}
 use Rattle.tm_line.specs.Search.{Candidate, patterns_in, started_by, found_as, earliest, searches_cost}
-use Rattle.tm_line.specs.Searched.{Searches, earlier}
+use Rattle.tm_line.specs.Searched.{Searches, earlier, earlier_in}
 
 earlier-none : (a : Option Found) → earlier a None ≡ a
 earlier-none None = refl
@@ -65,6 +66,16 @@ option_map-map : {A B C : Type 0} (f : A → B) (g : B → C) (o : Option A) →
 option_map-map f g None = refl
 option_map-map f g (Some x) = refl
 
+-- a fault that is passed on
+pub passed-on : (result : Result (Option Found) FindFault) (fault : FindFault) → IsErr result × IsErrAnd result (λ e. e ≡ fault) → Err fault ≡ result
+passed-on (Ok found) fault h = absurd h.1
+passed-on (Err e) fault h = ap Err (sym h.1)
+
+-- starts, and an end behind or before them
+abbrev pub in_order : Bool → List Candidate → List Candidate → List Candidate
+in_order true starts ends = starts ++ ends
+in_order false starts ends = ends ++ starts
+
 module _ (text : List ℕ) (at : ℕ) (allow_a allow_g : Bool) where
   abbrev found : Option Tree → Option Caps
   found p = scan.found text at allow_a allow_g p
@@ -105,31 +116,86 @@ module _ (text : List ℕ) (at : ℕ) (allow_a allow_g : Bool) where
   searches_cost-append [] ys = omega arith
   searches_cost-append (c ∷ cs) ys = let rest = searches_cost-append cs ys in omega (arith, rest)
 
-  -- the one scan, and then the other with what it left
-  pub both-searches : (xs ys : List Candidate) (before mid after : ℕ) (first : Option Found) (result : Result (Option Found) FindFault) →
-      Searches (earliest text at allow_a allow_g xs) (searches_cost text at allow_a allow_g xs) before mid (Ok first) →
-      Searches (earlier first (earliest text at allow_a allow_g ys)) (searches_cost text at allow_a allow_g ys) mid after result →
-      Searches (earliest text at allow_a allow_g (xs ++ ys)) (searches_cost text at allow_a allow_g (xs ++ ys)) before after result
-  both-searches xs ys before mid after first result s t =
-      let sum = searches_cost-append xs ys in
+  earliest-in_order : (last : Bool) (starts ends : List Candidate) → earliest text at allow_a allow_g (in_order last starts ends) ≡ earlier_in last (earliest text at allow_a allow_g starts) (earliest text at allow_a allow_g ends)
+  earliest-in_order true starts ends = earliest-append starts ends
+  earliest-in_order false starts ends = earliest-append ends starts
+
+  pub searches_cost-in_order : (last : Bool) (starts ends : List Candidate) → searches_cost text at allow_a allow_g (in_order last starts ends) ≡ searches_cost text at allow_a allow_g starts + searches_cost text at allow_a allow_g ends
+  searches_cost-in_order true starts ends = searches_cost-append starts ends
+  searches_cost-in_order false starts ends = let sum = searches_cost-append ends starts in omega (arith, sum)
+
+  -- what is searched for candidates
+  abbrev pub SearchesFor : List Candidate → ℕ → ℕ → Result (Option Found) FindFault → Type 0
+  SearchesFor cs before after result = Searches (earliest text at allow_a allow_g cs) (searches_cost text at allow_a allow_g cs) before after result
+
+  -- the starts are searched, and then the end with what they left
+  pub both-searched : (last : Bool) (starts ends : List Candidate) (before mid after : ℕ) (start end result : Option Found) →
+      SearchesFor starts before mid (Ok start) → SearchesFor ends mid after (Ok end) → result ≡ earlier_in last start end → SearchesFor (in_order last starts ends) before after (Ok result)
+  both-searched last starts ends before mid after start end result s t e =
+      let sum = searches_cost-in_order last starts ends in
       let a = s.spends.falls in
       let b = s.spends.most in
       let c = t.spends.falls in
       let d = t.spends.most in
       record {
-        found = won result t.found;
+        found = e ∙ ap₂ (earlier_in last) s.found t.found ∙ sym (earliest-in_order last starts ends);
+        spends = record { falls = omega arith; most = omega (arith, sum) };
+        over = λ is. absurd cc;
+      }
+
+  pub end-refused : (last : Bool) (starts ends : List Candidate) (before mid after : ℕ) (start : Option Found) (fault : FindFault) →
+      SearchesFor starts before mid (Ok start) → SearchesFor ends mid after (Err fault) → SearchesFor (in_order last starts ends) before after (Err fault)
+  end-refused last starts ends before mid after start fault s t =
+      let sum = searches_cost-in_order last starts ends in
+      let a = s.spends.falls in
+      let b = s.spends.most in
+      let c = t.spends.falls in
+      let d = t.spends.most in
+      record {
+        found = tt;
         spends = record { falls = omega arith; most = omega (arith, sum) };
         over = λ is. let over = t.over is in omega (arith, sum);
       }
-    where
-      won : (r : Result (Option Found) FindFault) → IfOk r (λ found. found ≡ earlier first (earliest text at allow_a allow_g ys)) → IfOk r (λ found. found ≡ earliest text at allow_a allow_g (xs ++ ys))
-      won (Ok found) e = e ∙ ap (λ o. earlier o (earliest text at allow_a allow_g ys)) s.found ∙ sym (earliest-append xs ys)
-      won (Err fault) e = tt
 
--- a search that was refused gives nothing
-pub refused-search : (want other : Option Found) (cost before after : ℕ) (fault : FindFault) → Searches want cost before after (Err fault) → Searches other cost before after (Err fault)
-refused-search want other cost before after fault s = record { found = tt; spends = s.spends; over = s.over }
+  pub start-refused : (starts cs : List Candidate) (before after : ℕ) (fault : FindFault) → searches_cost text at allow_a allow_g starts ≤ searches_cost text at allow_a allow_g cs →
+      SearchesFor starts before after (Err fault) → SearchesFor cs before after (Err fault)
+  start-refused starts cs before after fault le s =
+      let a = s.spends.falls in
+      let b = s.spends.most in
+      record {
+        found = tt;
+        spends = record { falls = omega arith; most = omega (arith, le) };
+        over = λ is. let over = s.over is in omega (arith, le);
+      }
 
--- the earlier of what was found before and of what is found
-pub found-earlier : (before got want result : Option Found) (cost budget left : ℕ) → Searches want cost budget left (Ok got) → result ≡ earlier before got → Searches (earlier before want) cost budget left (Ok result)
-found-earlier before got want result cost budget left s e = record { found = e ∙ ap (earlier before) s.found; spends = s.spends; over = λ is. absurd cc }
+  -- what a scan finds at a place of its patterns is what the candidate there finds
+  labelled_by : (cs : List Candidate) (numbers : List ℕ) (won : Option Won) → ((n : ℕ) → started_by cs n ≡ slice_get numbers n) →
+      option_map (λ w. found_as (slice_get numbers w.0) w.1) won ≡ option_map (λ w. found_as (started_by cs w.0) w.1) won
+  labelled_by cs numbers None h = refl
+  labelled_by cs numbers (Some w) h = ap (λ l. Some (found_as l w.1)) (sym (h w.0))
+
+  -- a scan of the patterns of candidates
+  pub scan-searched : (cs : List Candidate) (ps : List (Option Tree)) (numbers : List ℕ) (won : Option Won) (found : Option Found) (before after : ℕ) →
+      ps ≡ patterns_in cs → ((n : ℕ) → started_by cs n ≡ slice_get numbers n) → won ≡ scan.earliest_winner text at allow_a allow_g ps →
+      found ≡ option_map (λ w. found_as (slice_get numbers w.0) w.1) won →
+      (after ≤ before) × (before ≤ after + scan.scan_cost text at allow_a allow_g ps) → SearchesFor cs before after (Ok found)
+  scan-searched cs ps numbers won found before after same labels is e falls =
+      let cost = ap (λ l. scan.scan_cost text at allow_a allow_g l) same in
+      let most = falls.1 in
+      record {
+        found = e ∙ labelled_by cs numbers won labels ∙ ap (option_map (λ w. found_as (started_by cs w.0) w.1)) (is ∙ ap (λ l. scan.earliest_winner text at allow_a allow_g l) same);
+        spends = record { falls = falls.0; most = omega (arith, cost, most) };
+        over = λ is. absurd cc;
+      }
+
+  pub scan-refused : (cs : List Candidate) (ps : List (Option Tree)) (before after : ℕ) (fault : FindFault) → ps ≡ patterns_in cs →
+      (IsErrOf {T = Option Won} (Err fault) FindFault.Budget → before < scan.scan_cost text at allow_a allow_g ps) →
+      (after ≤ before) × (before ≤ after + scan.scan_cost text at allow_a allow_g ps) → SearchesFor cs before after (Err fault)
+  scan-refused cs ps before after fault same over falls =
+      let cost = ap (λ l. scan.scan_cost text at allow_a allow_g l) same in
+      let most = falls.1 in
+      record {
+        found = tt;
+        spends = record { falls = falls.0; most = omega (arith, cost, most) };
+        over = λ is. let spent : fault ≡ FindFault.Budget = cc in let lt = over (ap Err spent) in omega (arith, cost, lt);
+      }

@@ -1,20 +1,23 @@
 -- What rules say of one text, for the line relation.
-use Rattle.std.specs.Prelude.{ℕ, List, [], length, Option, Some, None, slice_get}
-use Rattle.std.specs.Option.{option_to_list}
+use Rattle.std.specs.Prelude.{ℕ, List, [], length, Option, Some, None, slice_get, if◌then◌else◌}
 use Rattle.tm_line_run.specs.LineRun as line
 use Rattle.tm_line_run.specs.LineRun.{Winner, Nothing, Ends, Begins, Matches, Grammar}
-use Rattle.tm_line.specs.Rules.{Rule, Match, BeginEnd, Only}
-use Rattle.tm_line.specs.declared.rules.Found.{Found}
-use Rattle.tm_line.specs.Search.{earliest, searches_cost, flattened_candidates}
+use Rattle.tm_rules.specs.declared.rule.Rule.{Rule}
+use Rattle.tm_rules.specs.declared.rule.Rule.TheVariants as R
+use Rattle.tm_template.specs.Ends.{has_reference, resolved}
+use Rattle.tm_template.specs.Names as template
+use Rattle.tm_line.specs.declared.found.Found.{Found}
+use Rattle.tm_line.specs.Search.{earliest, searches_cost, candidates_in, own_end}
 
 abbrev pub match_of : Found → line.Match
-match_of f = record { start = f.start; end = f.end }
+match_of f = record { start = f.start; end = f.end; groups = f.caps }
 
--- a match rule matches, and a begin/end rule begins
+-- a match rule matches, and a rule with a begin begins
 abbrev pub started : Found → ℕ → Option Rule → Winner
-started f n (Some (Match pattern name)) = Matches n (match_of f)
-started f n (Some (BeginEnd begin end name content_name patterns)) = Begins n (match_of f)
-started f n (Some (Only patterns)) = Nothing
+started f n (Some (R.Match grammar path name content_name match_text captures)) = Matches n (match_of f)
+started f n (Some (R.BeginEnd grammar path name content_name begin end_text end_last begin_captures end_captures patterns)) = Begins n (match_of f)
+started f n (Some (R.BeginWhile grammar path name content_name begin while_text begin_captures while_captures patterns)) = Begins n (match_of f)
+started f n (Some (R.Only grammar path name content_name patterns)) = Nothing
 started f n None = Nothing
 
 abbrev pub of_candidate : List Rule → Found → Option ℕ → Winner
@@ -25,26 +28,36 @@ abbrev pub of_found : List Rule → Option Found → Winner
 of_found rules None = Nothing
 of_found rules (Some f) = of_candidate rules f f.candidate
 
--- a name is pushed as one scope
-abbrev pub names_of : Option Rule → List (List ℕ)
-names_of (Some (Match pattern name)) = option_to_list name
-names_of (Some (BeginEnd begin end name content_name patterns)) = option_to_list name
-names_of (Some (Only patterns)) = []
-names_of None = []
+-- the name of a rule, and that of what is inside it
+abbrev pub name_in : Option Rule → Option (List ℕ)
+name_in (Some (R.Match grammar path name content_name match_text captures)) = name
+name_in (Some (R.BeginEnd grammar path name content_name begin end_text end_last begin_captures end_captures patterns)) = name
+name_in (Some (R.BeginWhile grammar path name content_name begin while_text begin_captures while_captures patterns)) = name
+name_in rule = None
 
--- and so is a content name
-abbrev pub content_names_of : Option Rule → List (List ℕ)
-content_names_of (Some (BeginEnd begin end name content_name patterns)) = option_to_list content_name
-content_names_of rule = []
+abbrev pub content_name_in : Option Rule → Option (List ℕ)
+content_name_in (Some (R.BeginEnd grammar path name content_name begin end_text end_last begin_captures end_captures patterns)) = content_name
+content_name_in (Some (R.BeginWhile grammar path name content_name begin while_text begin_captures while_captures patterns)) = content_name
+content_name_in rule = None
+
+-- the scopes of a name over a match, with what its groups captured
+abbrev pub scopes_of : List ℕ → line.Match → Option (List ℕ) → List (List ℕ)
+scopes_of text m None = []
+scopes_of text m (Some name) = template.names_of name text m.groups
+
+-- the text of an end with what the begin captured, where it refers to that
+abbrev pub end_made_of : List ℕ → line.Match → Option (List ℕ) → Option (List ℕ)
+end_made_of text m None = None
+end_made_of text m (Some end) = if has_reference end then Some (resolved end text m.groups) else None
 
 -- a turn searches every candidate of the open rule
 abbrev pub rules_grammar : List Rule → List ℕ → Grammar
 rules_grammar rules text = record {
   rules = length rules;
   end = length text;
-  winner = λ frame has_end at first anchored.
-      of_found rules (earliest text at first anchored (flattened_candidates rules has_end frame.rule));
-  cost = λ frame has_end at first anchored. searches_cost text at first anchored (flattened_candidates rules has_end frame.rule);
-  names = λ rule m. names_of (slice_get rules rule);
-  content_names = λ rule m. content_names_of (slice_get rules rule);
+  winner = λ frame has_end at first anchored. of_found rules (earliest text at first anchored (candidates_in rules frame has_end));
+  cost = λ frame has_end at first anchored. searches_cost text at first anchored (candidates_in rules frame has_end);
+  names = λ rule m. scopes_of text m (name_in (slice_get rules rule));
+  content_names = λ rule m. scopes_of text m (content_name_in (slice_get rules rule));
+  end_text = λ rule m. end_made_of text m (own_end (slice_get rules rule));
 }

@@ -1,21 +1,41 @@
--- What is searched inside each rule, with the patterns as they were read.
-use Rattle.std.specs.Prelude.{◌≡◌, ℕ, List, length, map, Option, Some, slice_get}
-use Rattle.tm_onig_scan.specs.Winner.{trees_of}
-use Rattle.tm_line.specs.Rules.{Rule, rules_data}
-use Rattle.tm_line.specs.Search.{ends_in, starts_in, patterns_in, rules_in}
+-- What is searched while rules are open, with the patterns as they were read.
+use Rattle.std.specs.Prelude.{◌≡◌, ℕ, List, [], ◌∷◌, length, map, Bool, Option, Some, None, slice_get}
+use Rattle.tm_onig_class.specs.Tree.{Tree}
+use Rattle.tm_onig_scan.specs.Winner.{parsed_if}
+use Rattle.tm_rules.specs.Candidates.{flattened_candidates, with_end}
+use Rattle.tm_rules.specs.declared.candidate.Candidate.{Candidate}
+use Rattle.tm_rules.specs.declared.candidate.Candidate.TheVariants.{Start, End}
+use Rattle.tm_rules.specs.declared.rule.Rule.{Rule}
+use Rattle.tm_rules.specs.declared.rule.Rule.TheVariants as R
+use Rattle.tm_line.specs.Search.{start_text, own_end}
 use Rattle.tm_line.specs.declared.inside.Inside.{Inside}
-use Rattle.tm_line.specs.declared.rules.Rule as code
 
--- the candidates inside this rule
-pub record IsInsideOf (rules : List Rule) (rule : Option Rule) (inside : Inside) : Type 0 where
-  pub ends : trees_of inside.ends ≡ patterns_in (ends_in rule)
-  pub starts : trees_of inside.starts ≡ patterns_in (starts_in rules rule)
-  pub numbers : map Some inside.numbers.items ≡ rules_in (starts_in rules rule)
+-- the numbers of the rules that candidates start, in their order
+abbrev pub numbers_in : List Candidate → List ℕ
+numbers_in [] = []
+numbers_in (Start n ∷ cs) = n ∷ numbers_in cs
+numbers_in (End ∷ cs) = numbers_in cs
 
-abbrev pub IsInside : List Rule → Rule → Inside → Type 0
-IsInside rules rule inside = IsInsideOf rules (Some rule) inside
+-- whether the end of a rule is tried last, if it has one
+abbrev pub end_last_of : Rule → Option Bool
+end_last_of (R.BeginEnd grammar path name content_name begin end_text end_last begin_captures end_captures patterns) = Some end_last
+end_last_of rule = None
+
+-- candidates with an end among them, which stands last or first, or with none
+abbrev pub with_end_if : Option Bool → List Candidate → List Candidate
+with_end_if None cs = cs
+with_end_if (Some last) cs = with_end last cs
+
+-- the starts inside this rule by number, and whether its end is tried last, if it has one
+abbrev pub IsInside : List Rule → ℕ → Inside → Type 0
+IsInside rules n inside = flattened_candidates rules n ≡ with_end_if inside.end_last (map Start inside.numbers.items)
 
 -- each has those of its rule
-pub record AreInsides (rules : List code.Rule) (insides : List Inside) : Type 0 where
+pub record AreInsides (rules : List Rule) (insides : List Inside) : Type 0 where
   pub long : length insides ≡ length rules
-  pub right : (n : ℕ) (inside : Inside) → slice_get insides n ≡ Some inside → IsInsideOf (rules_data rules) (slice_get (rules_data rules) n) inside
+  pub right : (n : ℕ) (inside : Inside) → slice_get insides n ≡ Some inside → IsInside rules n inside
+
+-- the patterns that start rules, each at the number of its rule, and those that end them as they stand in the grammar
+pub record AreRead (rules : List Rule) (read_starts read_ends : List (Option Tree)) : Type 0 where
+  pub starts : read_starts ≡ map (λ rule. parsed_if (start_text (Some rule))) rules
+  pub ends : read_ends ≡ map (λ rule. parsed_if (own_end (Some rule))) rules

@@ -1,8 +1,8 @@
 pub mod Example
 pub mod Grammar
 pub mod Insides
+pub mod MadeEnds
 pub mod Ran
-pub mod Rules
 pub mod Search
 pub mod Searched
 pub mod Setting

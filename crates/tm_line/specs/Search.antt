@@ -1,10 +1,15 @@
 -- Which candidate is found first, and what the searches for it cost.
-use Rattle.std.specs.Prelude.{ℕ, zero, suc, List, [], ◌∷◌, ◌++◌, map, Bool, true, false, Option, Some, None, option_map, slice_get}
+use Rattle.std.specs.Prelude.{ℕ, zero, suc, List, [], ◌∷◌, map, flat_map, Bool, true, false, Option, Some, None, option_map, slice_get}
+use Rattle.tm_defs.specs.declared.frames.FrameData.{FrameData}
 use Rattle.tm_onig_class.specs.Tree.{Tree}
 use Rattle.tm_onig_search.specs.Outcomes.{Caps}
-use Rattle.tm_onig_scan.specs.Winner.{start_of, earliest_winner, scan_cost}
-use Rattle.tm_line.specs.Rules.{Rule, Match, BeginEnd, Only}
-use Rattle.tm_line.specs.declared.rules.Found.{Found}
+use Rattle.tm_onig_scan.specs.Winner.{start_of, parsed_if, earliest_winner, scan_cost}
+use Rattle.tm_rules.specs.Candidates.{flattened_candidates}
+use Rattle.tm_rules.specs.declared.candidate.Candidate as code
+use Rattle.tm_rules.specs.declared.candidate.Candidate.TheVariants.{Start, End}
+use Rattle.tm_rules.specs.declared.rule.Rule.{Rule}
+use Rattle.tm_rules.specs.declared.rule.Rule.TheVariants as R
+use Rattle.tm_line.specs.declared.found.Found.{Found}
 
 -- a pattern that is searched, and the rule that it starts; the end of the open rule starts none
 pub record Candidate : Type 0 where
@@ -16,9 +21,6 @@ candidate_of rule pattern = record { rule = rule; pattern = pattern }
 
 abbrev pub patterns_in : List Candidate → List (Option Tree)
 patterns_in cs = map (λ c. c.pattern) cs
-
-abbrev pub rules_in : List Candidate → List (Option ℕ)
-rules_in cs = map (λ c. c.rule) cs
 
 -- the rule that the candidate of this number starts
 abbrev pub started_by : List Candidate → ℕ → Option ℕ
@@ -33,7 +35,7 @@ end_of (None ∷ groups) = 0
 end_of (Some span ∷ groups) = span.1
 
 abbrev pub found_as : Option ℕ → Caps → Found
-found_as rule caps = record { candidate = rule; start = start_of caps; end = end_of caps }
+found_as rule caps = record { candidate = rule; start = start_of caps; end = end_of caps; caps = caps }
 
 -- of a list of candidates the one that is found earliest in a text from a place on, the first in the list on a tie,
 -- where `\A` matches at 0 and `\G` at the place if they are allowed
@@ -45,33 +47,30 @@ earliest text at allow_a allow_g cs =
 abbrev pub searches_cost : List ℕ → ℕ → Bool → Bool → List Candidate → ℕ
 searches_cost text at allow_a allow_g cs = scan_cost text at allow_a allow_g (patterns_in cs)
 
--- what a rule of this number contributes to a list: its own pattern. A list inside a list contributes
--- nothing here, nor does a number without a rule
-abbrev pub contributed : ℕ → Option Rule → List Candidate
-contributed n (Some (Match pattern name)) = candidate_of (Some n) pattern ∷ []
-contributed n (Some (BeginEnd begin end name content_name patterns)) = candidate_of (Some n) begin ∷ []
-contributed n (Some (Only patterns)) = []
-contributed n None = []
+-- the text of the pattern that starts a rule; a list of rules has none
+abbrev pub start_text : Option Rule → Option (List ℕ)
+start_text (Some (R.Match grammar path name content_name match_text captures)) = Some match_text
+start_text (Some (R.BeginEnd grammar path name content_name begin end_text end_last begin_captures end_captures patterns)) = Some begin
+start_text (Some (R.BeginWhile grammar path name content_name begin while_text begin_captures while_captures patterns)) = Some begin
+start_text rule = None
 
-abbrev pub listed_candidates : List Rule → List ℕ → List Candidate
-listed_candidates rules [] = []
-listed_candidates rules (n ∷ ns) = contributed n (slice_get rules n) ++ listed_candidates rules ns
+-- the text of the pattern that ends it, as it stands in the grammar
+abbrev pub own_end : Option Rule → Option (List ℕ)
+own_end (Some (R.BeginEnd grammar path name content_name begin end_text end_last begin_captures end_captures patterns)) = end_text
+own_end rule = None
 
--- the end of an open rule, and the starts of the rules in it. A match rule has none
-abbrev pub ends_in : Option Rule → List Candidate
-ends_in (Some (BeginEnd begin end name content_name patterns)) = candidate_of None end ∷ []
-ends_in rule = []
+-- an open rule ends with the text that was made for it at its begin, or else with that of its grammar
+abbrev pub end_text : Option Rule → Option (List ℕ) → Option (List ℕ)
+end_text rule None = own_end rule
+end_text rule (Some text) = Some text
 
-abbrev pub starts_in : List Rule → Option Rule → List Candidate
-starts_in rules (Some (BeginEnd begin end name content_name patterns)) = listed_candidates rules patterns
-starts_in rules (Some (Only patterns)) = listed_candidates rules patterns
-starts_in rules rule = []
+-- a candidate of an open rule, whose end counts where a rule is open around it. A text that is no pattern matches nowhere,
+-- nor does an end without a text
+abbrev pub tried : List Rule → FrameData → Bool → code.Candidate → List Candidate
+tried rules frame has_end (Start n) = candidate_of (Some n) (parsed_if (start_text (slice_get rules n))) ∷ []
+tried rules frame true End = candidate_of None (parsed_if (end_text (slice_get rules frame.rule) frame.end)) ∷ []
+tried rules frame false End = []
 
--- an end counts where a rule is open around it
-abbrev pub counted : Bool → List Candidate → List Candidate
-counted true ends = ends
-counted false ends = []
-
--- the candidates inside an open rule: its end, where it counts, and then what it lists
-abbrev pub flattened_candidates : List Rule → Bool → ℕ → List Candidate
-flattened_candidates rules has_end rule = counted has_end (ends_in (slice_get rules rule)) ++ starts_in rules (slice_get rules rule)
+-- the candidates of an open rule, in their order
+abbrev pub candidates_in : List Rule → FrameData → Bool → List Candidate
+candidates_in rules frame has_end = flat_map (tried rules frame has_end) (flattened_candidates rules frame.rule)

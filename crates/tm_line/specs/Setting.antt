@@ -1,20 +1,18 @@
 -- A setting as plain data.
 use Rattle.std.specs.Prelude.{ℕ, List}
-use Rattle.tm_line.specs.declared.rules.Rule as code
-use Rattle.tm_line.specs.Rules.{Rule, rules_data}
+use Rattle.tm_rules.specs.Rules.{plain_rules}
+use Rattle.tm_rules.specs.declared.grammars.Grammars.{Grammars}
+use Rattle.tm_rules.specs.declared.rule.Rule.{Rule}
+use Rattle.tm_template.specs.Names.{words_of}
 
--- the scope of the grammar, and its rules by number; rule 0 is the root
+-- the scopes of every token, and the rules of all grammars by number; rule 0 is the root
 pub record Setting : Type 0 where
-  pub scope : List ℕ
+  pub scopes : List (List ℕ)
   pub rules : List Rule
 
-abbrev pub setting_of : List ℕ → List Rule → Setting
-setting_of scope rules = record { scope = scope; rules = rules }
+abbrev pub setting_with : List (List ℕ) → List Rule → Setting
+setting_with scopes rules = record { scopes = scopes; rules = rules }
 
--- the same with the rules as the code has them
-pub record BuiltSetting : Type 0 where
-  pub scope : List ℕ
-  pub rules : List code.Rule
-
-abbrev pub setting_data : BuiltSetting → Setting
-setting_data built = setting_of built.scope (rules_data built.rules)
+-- the scope name of the root grammar gives scopes as a name does
+abbrev pub setting_of : Grammars → Setting
+setting_of parts = setting_with (words_of parts.root.scope_name) (plain_rules parts)

@@ -34,20 +34,20 @@ start_anchor (f ∷ fs) = if f.at_eol then Some 0 else None
 abbrev pub start_spot : List FrameData → Spot
 start_spot start = record { at = 0; entries = []; anchor = start_anchor (reverse start); first = not (some_open start) }
 
--- the opening state stands for the one frame of the root, rule 0, with the grammar's scope pushed
-abbrev pub start_state : List ℕ → List FrameData → List FrameData
-start_state scope [] = opened 0 (scope ∷ []) false ∷ []
-start_state scope (f ∷ fs) = f ∷ fs
+-- the opening state stands for the one frame of the root, rule 0, with the scopes of every token
+abbrev pub start_state : List (List ℕ) → List FrameData → List FrameData
+start_state scopes [] = opened 0 scopes false ∷ []
+start_state scopes (f ∷ fs) = f ∷ fs
 
-abbrev pub start_made : List ℕ → List FrameData → TableEntries
-start_made scope [] = more_made (names_made [] (scope ∷ [])) (only_state (start_state scope []))
-start_made scope (f ∷ fs) = none_made
+abbrev pub start_made : List (List ℕ) → List FrameData → TableEntries
+start_made scopes [] = more_made (names_made [] scopes) (only_state (start_state scopes []))
+start_made scopes (f ∷ fs) = none_made
 
 -- the line with its line break, from its start on
 abbrev pub outcome_of : Setting → List FrameData → List ℕ → Outcome
 outcome_of s start line =
     let text = line ++ 10 ∷ [] in
-    line_run (rules_grammar s.rules text) (place_of (reverse (start_state s.scope start)) (start_spot start))
+    line_run (rules_grammar s.rules text) (place_of (reverse (start_state s.scopes start)) (start_spot start))
 
 -- the content scopes of the innermost of open rules
 abbrev pub top_contents : List FrameData → List (List ℕ)
@@ -66,7 +66,7 @@ abbrev pub rules_tokenized : Setting → List FrameData → List ℕ → Tokeniz
 rules_tokenized s start line = tokenized_by (outcome_of s start line) (length line)
 
 abbrev pub rules_made : Setting → List FrameData → List ℕ → TableEntries
-rules_made s start line = more_made (start_made s.scope start) (outcome_of s start line).part.made
+rules_made s start line = more_made (start_made s.scopes start) (outcome_of s start line).part.made
 
 -- the steps of all searches of the line
 abbrev pub rules_cost : Setting → List FrameData → List ℕ → ℕ

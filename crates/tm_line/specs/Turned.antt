@@ -1,6 +1,5 @@
 -- What a body did in one turn, where a table holds the open rules by number.
-use Rattle.std.specs.Prelude.{◌≡◌, ℕ, ◌<◌, Bool, List, ◌∷◌, ◌++◌, length, map, reverse, ◌&&◌, not, nat_lt, max, Option, Some, None, slice_get, Result, IfOk, IfErr}
-use Rattle.std.specs.Option.{option_to_list}
+use Rattle.std.specs.Prelude.{◌≡◌, ℕ, ◌<◌, Bool, List, ◌∷◌, ◌++◌, length, map, reverse, ◌&&◌, not, nat_lt, max, Option, Some, None, slice_get, Result, Ok, Err, IfOk, IfErr}
 use Rattle.tm_defs.specs.Tables.{Tables, TableEntries, GrowsWithin, IsFullForSome, IsFrameOf, frame_at, state_at, deeper_state}
 use Rattle.tm_defs.specs.declared.frames.FrameData.{FrameData}
 use Rattle.tm_defs.specs.declared.tables.TableFault.{TableFault}
@@ -14,8 +13,9 @@ use Rattle.tm_line.specs.Searched.{Spends}
 use Rattle.tm_line_run.specs.LineRun.{Place, Part, Turn, Stops, GoesOn, stack_of, is_entered, near, has, rests, ended, begun, matched}
 use Rattle.tm_line_run.specs.Painted.{painted}
 use Rattle.tm_line_run.specs.declared.painter.Painted.{Painted}
-use Rattle.tm_line.specs.Rules.{Rule, Match, BeginEnd, Only}
-use Rattle.tm_line.specs.declared.rules.Found.{Found}
+use Rattle.tm_rules.specs.declared.rule.Rule.{Rule}
+use Rattle.tm_rules.specs.declared.rule.Rule.TheVariants as R
+use Rattle.tm_line.specs.declared.found.Found.{Found}
 use Rattle.tm_line_run.specs.LineRun as line
 use Rattle.tm_line.specs.declared.way.Entry as code
 use Rattle.tm_line.specs.declared.way.Way.{Way}
@@ -23,7 +23,7 @@ use Rattle.tm_line.specs.Tokenizing.{Spot, placed}
 use Rattle.tm_line.specs.declared.turn.Here.{Here}
 use Rattle.tm_line.specs.declared.turn.Next.{Next}
 use Rattle.tm_line.specs.declared.turn.Next.TheVariants as next
-use Rattle.tm_line.specs.Grammar.{match_of}
+use Rattle.tm_line.specs.Grammar.{match_of, scopes_of, end_made_of}
 use Rattle.tm_meta.specs.Metadata.{metadata_of}
 
 -- a state with its innermost frame split off
@@ -115,23 +115,32 @@ abbrev pub of_table : TableFault → LineFault
 of_table (TableFull n) = fault.TableFull n
 of_table OutOfMemory = fault.OutOfMemory
 
+-- what calls of a table gave, as what a line gives
+abbrev pub line_result : Result Next TableFault → Result Next LineFault
+line_result (Ok next) = Ok next
+line_result (Err fault) = Err (of_table fault)
+
 abbrev pub of_search : FindFault → LineFault
 of_search find.Budget = fault.Budget
 of_search find.OutOfMemory = fault.OutOfMemory
 
 -- the turn at which the rule of this number was found
-abbrev pub turn_of : ℕ → Place → Found → ℕ → Option Rule → Turn
-turn_of end p f n (Some (Match pattern name)) = matched end p (match_of f) (option_to_list name)
-turn_of end p f n (Some (BeginEnd begin stop name content_name patterns)) = begun end p n (match_of f) (option_to_list name) (option_to_list content_name)
-turn_of end p f n (Some (Only patterns)) = rests end p
-turn_of end p f n None = rests end p
+abbrev pub turn_of : List ℕ → Place → Found → ℕ → Option Rule → Turn
+turn_of text p f n (Some (R.Match grammar path name content_name match_text captures)) =
+    matched (length text) p (match_of f) (scopes_of text (match_of f) name)
+turn_of text p f n (Some (R.BeginEnd grammar path name content_name begin end_text end_last begin_captures end_captures patterns)) =
+    begun (length text) p n (match_of f) (end_made_of text (match_of f) end_text) (scopes_of text (match_of f) name) (scopes_of text (match_of f) content_name)
+turn_of text p f n (Some (R.BeginWhile grammar path name content_name begin while_text begin_captures while_captures patterns)) =
+    begun (length text) p n (match_of f) None (scopes_of text (match_of f) name) (scopes_of text (match_of f) content_name)
+turn_of text p f n (Some (R.Only grammar path name content_name patterns)) = rests (length text) p
+turn_of text p f n None = rests (length text) p
 
 -- the turn at which this candidate was found
-abbrev pub candidate_turn : List Rule → ℕ → Place → Found → Option ℕ → Turn
-candidate_turn rules end p f None = ended end p (match_of f) p.below
-candidate_turn rules end p f (Some n) = turn_of end p f n (slice_get rules n)
+abbrev pub candidate_turn : List Rule → List ℕ → Place → Found → Option ℕ → Turn
+candidate_turn rules text p f None = ended (length text) p (match_of f) p.below
+candidate_turn rules text p f (Some n) = turn_of text p f n (slice_get rules n)
 
 -- the turn at which this was found
-abbrev pub taken_turn : List Rule → ℕ → Place → Option Found → Turn
-taken_turn rules end p None = rests end p
-taken_turn rules end p (Some f) = candidate_turn rules end p f f.candidate
+abbrev pub taken_turn : List Rule → List ℕ → Place → Option Found → Turn
+taken_turn rules text p None = rests (length text) p
+taken_turn rules text p (Some f) = candidate_turn rules text p f f.candidate

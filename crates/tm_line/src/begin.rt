@@ -1,20 +1,28 @@
 //! The begin of a rule, where a table holds the open rules by number.
 ghost use Rattle.std.specs.Prelude.{◌≡◌, ◌<◌, ◌++◌, ◌∷◌, ◌==◌, [], length, not, nat_lt, IfOk, OnOk, IfErr};
-ghost use Rattle.std.specs.Option.{option_to_list};
 ghost use Rattle.tm_defs.specs.Tables.{GrowsWithin, IsFullForSome, path_at, state_at, more_made, only_state};
-ghost use Rattle.tm_line_run.specs.LineRun.{begun, entered, framed, most_open, names_made};
+ghost use Rattle.tm_line_run.specs.LineRun.{begun, end_made, entered, framed, most_open, names_made};
 ghost use Rattle.tm_line.specs.Grammar.{match_of};
 ghost use Rattle.tm_line.specs.Turned.{Does, GoesOnAt, IsHere, entered_spot, place_here, spot_of};
 
-use crate::rules::Found;
+use crate::found::Found;
 use crate::tables::{named_list, push_frame};
 use crate::turn::{Here, Next, paint_named, rest};
 use crate::way::{Way, enters, is_stuck_begin};
 use tm_defs::frames::{ScopeList, StateId};
 use tm_defs::tables::{States, TableFault};
-use tm_defs::texts::Name;
+use tm_defs::texts::{Name, ScopePath};
 use tm_line_run::painter::Painted;
 use tm_meta::metadata::paint;
+
+/// What a rule that begins gives: the scopes of its begin and end, those of what is inside it alone, and
+/// the text that ends it, if it has one of its own.
+#[derive(Drop)]
+pub struct Given {
+    pub names: ScopePath,
+    pub content_names: ScopePath,
+    pub end: Option<Name>,
+}
 
 /// How many rules may be open.
 const MOST_OPEN: u32 = 512;
@@ -36,42 +44,42 @@ fn is_full<S: States>(table: &S, state: StateId) -> bool
     false
 }
 
-/// The rule is open from here on. Its scopes are `path`, and inside it the content name is added.
+/// The rule is open from here on. Its scopes are `path`, and inside it the content names are added.
 fn opens<S: States>(
     table: &mut S,
     state: StateId,
     way: &mut Way,
     path: ScopeList,
-    content_name: &Option<Name>,
+    given: &Given,
     rule: u32,
-    found: Found,
+    end: usize,
     len: usize,
 ) -> Result<Next, TableFault>
     requires state { state.0 < length (S.tables table.old).states }
     requires path { path.0 < length (S.tables table.old).paths }
     ensures ok { let scopes = path_at (S.tables table.old) path in
-        let frame = framed rule scopes (scopes ++ option_to_list content_name.now) (found.end == len) in
+        let frame = framed rule given.now.end scopes (scopes ++ given.now.content_names) (end == len) in
         IfOk result (λ next. GoesOnAt (S.tables table.new) (state_at (S.tables table.old) state ++ frame ∷ []) next) }
     ensures way { let old = spot_of way.old in
-        OnOk result (spot_of way.new ≡ entered_spot old rule found.end) }
+        OnOk result (spot_of way.new ≡ entered_spot old rule end) }
     ensures grows { let scopes = path_at (S.tables table.old) path in
-        let names = option_to_list content_name.now in
-        let frame = framed rule scopes (scopes ++ names) (found.end == len) in
-        GrowsWithin (more_made (names_made scopes names) (only_state (state_at (S.tables table.old) state ++ frame ∷ [])))
+        let names = given.now.content_names in
+        let frame = framed rule given.now.end scopes (scopes ++ names) (end == len) in
+        GrowsWithin (more_made (names_made scopes names) (more_made (end_made given.now.end) (only_state (state_at (S.tables table.old) state ++ frame ∷ []))))
         (S.tables table.old) (S.tables table.new) }
     ensures full { let scopes = path_at (S.tables table.old) path in
-        let names = option_to_list content_name.now in
-        let frame = framed rule scopes (scopes ++ names) (found.end == len) in
-        IfErr result (IsFullForSome (more_made (names_made scopes names) (only_state (state_at (S.tables table.old) state ++ frame ∷ [])))
+        let names = given.now.content_names in
+        let frame = framed rule given.now.end scopes (scopes ++ names) (end == len) in
+        IfErr result (IsFullForSome (more_made (names_made scopes names) (more_made (end_made given.now.end) (only_state (state_at (S.tables table.old) state ++ frame ∷ []))))
         (S.tables table.new)) }
 {
-    let inside = match named_list(table, path, content_name) {
+    let inside = match named_list(table, path, &given.content_names) {
         Ok(inside) => inside,
         Err(fault) => return Err(fault),
     };
-    match push_frame(table, state, path, inside, rule, found.end == len) {
+    match push_frame(table, state, path, inside, rule, &given.end, end == len) {
         Ok(next) => {
-            let Ok(()) = enters(way, rule, found.end) else {
+            let Ok(()) = enters(way, rule, end) else {
                 return Err(TableFault::OutOfMemory);
             };
             Ok(Next::GoesOn(next))
@@ -87,18 +95,17 @@ fn begins_within<S: States>(
     pieces: &mut Vec<Painted>,
     here: Here,
     way: &mut Way,
-    found: Found,
+    found: &Found,
     rule: u32,
-    name: &Option<Name>,
-    content_name: &Option<Name>,
+    given: &Given,
     len: usize,
 ) -> Result<Next, TableFault>
     requires { IsHere (S.tables table.old) here }
     ensures { let p = place_here (S.tables table.old) here (spot_of way.old) in
-        Does (entered len p rule (match_of found) (option_to_list name.now) (option_to_list content_name.now))
+        Does (entered len p rule (match_of found.now) given.now.end given.now.names given.now.content_names)
         (S.tables table.old) (S.tables table.new) pieces.old.items pieces.new.items (spot_of way.new) result }
 {
-    let path = match paint_named(table, pieces, here.frame.contents, name, found) {
+    let path = match paint_named(table, pieces, here.frame.contents, &given.names, found) {
         Ok(path) => path,
         Err(fault) => return Err(fault),
     };
@@ -108,7 +115,7 @@ fn begins_within<S: States>(
         };
         return Ok(Next::Stops(here.state));
     }
-    opens(table, here.state, way, path, content_name, rule, found, len)
+    opens(table, here.state, way, path, given, rule, found.end, len)
 }
 
 /// A rule begins. Where as many rules are open as may be, the line stops without it.
@@ -117,29 +124,18 @@ pub fn begins<S: States>(
     pieces: &mut Vec<Painted>,
     here: Here,
     way: &mut Way,
-    found: Found,
+    found: &Found,
     rule: u32,
-    name: &Option<Name>,
-    content_name: &Option<Name>,
+    given: &Given,
     len: usize,
 ) -> Result<Next, TableFault>
     requires { IsHere (S.tables table.old) here }
     ensures { let p = place_here (S.tables table.old) here (spot_of way.old) in
-        Does (begun len p rule (match_of found) (option_to_list name.now) (option_to_list content_name.now))
+        Does (begun len p rule (match_of found.now) given.now.end given.now.names given.now.content_names)
         (S.tables table.old) (S.tables table.new) pieces.old.items pieces.new.items (spot_of way.new) result }
 {
     if is_full(table, here.state) {
         return rest(table, pieces, here, len);
     }
-    begins_within(
-        table,
-        pieces,
-        here,
-        way,
-        found,
-        rule,
-        name,
-        content_name,
-        len,
-    )
+    begins_within(table, pieces, here, way, found, rule, given, len)
 }

@@ -18,19 +18,22 @@
 //! A start at which the search fails takes 1 step for the digit, and 2 for a row of two letters.
 #![tactic(auto)]
 
-ghost use Rattle.std.specs.Prelude.{◌≡◌, ◌∷◌, [], ℕ, Bool, true, false, List, codes};
+ghost use Rattle.std.specs.Prelude.{◌≡◌, ℕ, true, false, List};
 ghost use Rattle.tm_line_run.specs.Laws.{IsLineRun};
-ghost use Rattle.tm_line.specs.Example.{candidates, comment_from, example, in_comment, in_root, line, plain_from, rule_at, string_from, text};
+ghost use Rattle.tm_rules.specs.declared.rule.Rule.{Rule};
+ghost use Rattle.tm_line.specs.Example.{candidates, rule_at, text};
 ghost use Rattle.tm_line.specs.Grammar.{rules_grammar};
-ghost use Rattle.tm_line.specs.Rules.{Rule};
 ghost use Rattle.tm_line.specs.Search.{earliest, searches_cost};
-ghost use Rattle.tm_line.specs.Tokenizing.{rules_cost, rules_tokenized};
 
 mod begin;
+mod ends;
+mod found;
 mod inside;
-pub mod rules;
+mod names;
+mod patterns;
 mod run;
 mod search;
+mod starts;
 mod tables;
 #[cfg(test)]
 mod tests;
@@ -49,16 +52,4 @@ pub fn worked_searches()
     ensures first_cost { searches_cost text 0 true false candidates ≡ 10 }
     ensures next { earliest text 1 false false candidates ≡ rule_at 2 2 4 }
     ensures next_cost { searches_cost text 1 false false candidates ≡ 11 }
-{}
-
-/// Lines of the grammar at the head of this module, computed by the definitions: the line of the table,
-/// which leaves a comment open, and one behind it that closes it.
-pub fn worked_lines()
-    ensures opens { (rules_tokenized example [] line).tokens ≡
-        string_from 0 ∷ plain_from 1 ∷ comment_from 2 ∷ string_from 4 ∷ [] }
-    ensures opens_end { (rules_tokenized example [] line).end ≡ in_comment }
-    ensures cost { rules_cost example [] line ≡ 35 }
-    ensures closes { (rules_tokenized example in_comment (codes "4*/")).tokens ≡
-        string_from 0 ∷ comment_from 1 ∷ [] }
-    ensures closes_end { (rules_tokenized example in_comment (codes "4*/")).end ≡ in_root }
 {}

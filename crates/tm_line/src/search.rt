@@ -1,21 +1,24 @@
 //! The search of the earliest candidate.
 //!
-//! The open rule's own end is one scan and the starts of the rules in it are another, each from the same
-//! position to the text's end, and what the one leaves of the budget is the budget of the other. A line
+//! The starts of the rules inside an open rule are one scan, and its end is one search more, each from the
+//! same position to the text's end, and what the one leaves of the budget is the budget of the other. A line
 //! with many candidates and many turns so searches each of them at each turn.
-ghost use Rattle.std.specs.Prelude.{◌≡◌, ◌≤◌, ◌<◌, ◌^◌, ℕ, List, Option, [], length, slice_get};
+ghost use Rattle.std.specs.Prelude.{◌≡◌, ◌≤◌, ◌<◌, ◌^◌, ◌∷◌, [], ℕ, List, Some, length, option_map, slice_get};
+ghost use Rattle.tm_defs.specs.Tables.{IsFrameOf, frame_at};
+ghost use Rattle.tm_onig_parse.specs.Reading.{parsed};
 ghost use Rattle.tm_onig_scan.specs.Winner.{start_of, trees_of};
-ghost use Rattle.tm_line.specs.Insides.{IsInsideOf};
-ghost use Rattle.tm_line.specs.Rules.{Rule, rules_data};
-ghost use Rattle.tm_line.specs.Search.{Candidate, counted, earliest, end_of, ends_in, flattened_candidates, found_as, patterns_in, searches_cost, started_by, starts_in};
-ghost use Rattle.tm_line.specs.Searched.{Searches, earlier};
+ghost use Rattle.tm_line.specs.MadeEnds.{AreMadeEnds};
+ghost use Rattle.tm_line.specs.Search.{candidates_in, earliest, end_of, end_text, found_as, own_end, searches_cost};
+ghost use Rattle.tm_line.specs.Searched.{Searches, earlier, earlier_in, end_with, starts_of};
 
-use crate::inside::Inside;
-use crate::rules::{Found, Rules};
+use crate::ends::{MadeEnd, made_end};
+use crate::found::Found;
+use crate::patterns::Patterns;
 use std::alloc::Global;
 use tm_defs::caps::Caps;
+use tm_defs::frames::Frame;
+use tm_defs::tables::States;
 use tm_defs::texts::Line;
-use tm_onig_scan::Scanner;
 use tm_onig_vm::fault::FindFault;
 
 /// Which of the places `\A` and `\G` a search allows.
@@ -36,49 +39,30 @@ fn whole(caps: &Caps) -> (u32, u32)
     }
 }
 
-/// What the groups of a match say of its candidate.
-fn found_as(candidate: Option<u32>, caps: &Caps) -> Found
-    ensures { result ≡ found_as candidate caps.now }
+/// A match, as that of a candidate.
+fn found_as(candidate: Option<u32>, caps: Caps) -> Found
+    ensures { result ≡ found_as candidate caps }
 {
-    let (start, end) = whole(caps);
+    let (start, end) = whole(&caps);
     Found {
         candidate,
         start: start as usize,
         end: end as usize,
+        caps,
     }
 }
 
-/// The earliest of the candidates that a scanner has the patterns of, and these numbers the rules.
-fn earliest_of(
-    alloc: Global,
-    scanner: &Scanner,
-    numbers: &[u32],
-    text: &Line,
-    at: usize,
-    anchors: Anchors,
-    budget: &mut u64,
-) -> Result<Option<Found>, FindFault>
-    requires within { at ≤ length text.now }
-    requires small { length text.now < 2 ^ 31 }
-    ensures { (cs : List Candidate) → trees_of scanner.now ≡ patterns_in cs →
-        ((n : ℕ) → started_by cs n ≡ slice_get numbers.now n) →
-        Searches (earliest text.now at anchors.allow_a anchors.allow_g cs) (searches_cost text.now at anchors.allow_a anchors.allow_g cs)
-        budget.old budget.new result }
+/// What a scan found, as that of the candidate at its place: the rule with this one of the numbers, or the
+/// end where there are no numbers.
+fn candidate_at(numbers: &[u32], won: Option<(u32, Caps)>) -> Option<Found>
+    ensures { result ≡ option_map (λ w. found_as (slice_get numbers.now w.0) w.1) won }
 {
-    match scanner.next(
-        alloc,
-        text,
-        at as u32,
-        anchors.allow_a,
-        anchors.allow_g,
-        budget,
-    ) {
-        Ok(Some((number, caps))) => {
-            let rule = numbers.get(number as usize).copied();
-            Ok(Some(found_as(rule, &caps)))
+    match won {
+        Some((place, caps)) => {
+            let rule = numbers.get(place as usize).copied();
+            Some(found_as(rule, caps))
         }
-        Ok(None) => Ok(None),
-        Err(fault) => Err(fault),
+        None => None,
     }
 }
 
@@ -93,35 +77,22 @@ fn earlier_of(a: Option<Found>, b: Option<Found>) -> Option<Found>
     }
 }
 
-/// The earliest end, where it counts.
-fn earliest_end(
-    alloc: Global,
-    ends: &Scanner,
-    text: &Line,
-    at: usize,
-    anchors: Anchors,
-    has_end: bool,
-    budget: &mut u64,
-) -> Result<Option<Found>, FindFault>
-    requires within { at ≤ length text.now }
-    requires small { length text.now < 2 ^ 31 }
-    ensures { (rule : Option Rule) → trees_of ends.now ≡ patterns_in (ends_in rule) →
-        let cs = counted has_end (ends_in rule) in
-        Searches (earliest text.now at anchors.allow_a anchors.allow_g cs) (searches_cost text.now at anchors.allow_a anchors.allow_g cs)
-        budget.old budget.new result }
+/// The earlier of a start and of an end that is tried behind the starts or before them.
+fn earlier_in(end_last: bool, start: Option<Found>, end: Option<Found>) -> Option<Found>
+    ensures { result ≡ earlier_in end_last start end }
 {
-    if has_end {
-        earliest_of(alloc, ends, &[], text, at, anchors, budget)
+    if end_last {
+        earlier_of(start, end)
     } else {
-        Ok(None)
+        earlier_of(end, start)
     }
 }
 
-/// The earlier of the end and of the earliest start, the end on a tie.
-fn earliest_with(
+/// The earliest start of the rules with these numbers.
+fn earliest_start(
     alloc: Global,
-    inside: &Inside,
-    end: Option<Found>,
+    patterns: &Patterns,
+    numbers: &[u32],
     text: &Line,
     at: usize,
     anchors: Anchors,
@@ -129,42 +100,144 @@ fn earliest_with(
 ) -> Result<Option<Found>, FindFault>
     requires within { at ≤ length text.now }
     requires small { length text.now < 2 ^ 31 }
-    ensures { (rules : List Rule) (rule : Option Rule) → IsInsideOf rules rule inside.now →
-        let cs = starts_in rules rule in
-        Searches (earlier end (earliest text.now at anchors.allow_a anchors.allow_g cs)) (searches_cost text.now at anchors.allow_a anchors.allow_g cs)
+    ensures { let cs = starts_of patterns.now numbers.now in
+        Searches (earliest text.now at anchors.allow_a anchors.allow_g cs) (searches_cost text.now at anchors.allow_a anchors.allow_g cs)
         budget.old budget.new result }
 {
-    let numbers = inside.numbers.as_slice();
-    match earliest_of(alloc, &inside.starts, numbers, text, at, anchors, budget) {
-        Ok(start) => Ok(earlier_of(end, start)),
-        Err(fault) => Err(fault),
-    }
+    let won = patterns.starts.next_among(
+        alloc,
+        numbers,
+        text,
+        at as u32,
+        anchors.allow_a,
+        anchors.allow_g,
+        budget,
+    )?;
+    Ok(candidate_at(numbers, won))
+}
+
+/// The first match of the end that a rule has in its grammar.
+fn own_end(
+    alloc: Global,
+    patterns: &Patterns,
+    rule: u32,
+    text: &Line,
+    at: usize,
+    anchors: Anchors,
+    budget: &mut u64,
+) -> Result<Option<Found>, FindFault>
+    requires within { at ≤ length text.now }
+    requires small { length text.now < 2 ^ 31 }
+    ensures { let cs = end_with (own_end (slice_get patterns.now rule)) in
+        Searches (earliest text.now at anchors.allow_a anchors.allow_g cs) (searches_cost text.now at anchors.allow_a anchors.allow_g cs)
+        budget.old budget.new result }
+{
+    let won = patterns.ends.next_among(
+        alloc,
+        &[rule],
+        text,
+        at as u32,
+        anchors.allow_a,
+        anchors.allow_g,
+        budget,
+    )?;
+    Ok(candidate_at(&[], won))
+}
+
+/// The first match of an end that was made.
+fn made_end_found(
+    alloc: Global,
+    end: &MadeEnd,
+    text: &Line,
+    at: usize,
+    anchors: Anchors,
+    budget: &mut u64,
+) -> Result<Option<Found>, FindFault>
+    requires within { at ≤ length text.now }
+    requires small { length text.now < 2 ^ 31 }
+    ensures { (end_text : List ℕ) → trees_of end.now.scanner ≡ parsed end_text ∷ [] →
+        let cs = end_with (Some end_text) in
+        Searches (earliest text.now at anchors.allow_a anchors.allow_g cs) (searches_cost text.now at anchors.allow_a anchors.allow_g cs)
+        budget.old budget.new result }
+{
+    let won = end.scanner.next(
+        alloc,
+        text,
+        at as u32,
+        anchors.allow_a,
+        anchors.allow_g,
+        budget,
+    )?;
+    Ok(candidate_at(&[], won))
+}
+
+/// The first match of the end of an open rule: of the one that was made for it at its begin, or else of
+/// that of its grammar.
+fn end_found<S: States>(
+    alloc: Global,
+    table: &S,
+    patterns: &Patterns,
+    ends: &mut Vec<MadeEnd>,
+    frame: Frame,
+    text: &Line,
+    at: usize,
+    anchors: Anchors,
+    budget: &mut u64,
+) -> Result<Option<Found>, FindFault>
+    requires frame { IsFrameOf (S.tables table.now) frame }
+    requires made { AreMadeEnds (S.tables table.now) ends.old.items }
+    requires within { at ≤ length text.now }
+    requires small { length text.now < 2 ^ 31 }
+    ensures found { let f = frame_at (S.tables table.now) frame in
+        let cs = end_with (end_text (slice_get patterns.now f.rule) f.end) in
+        Searches (earliest text.now at anchors.allow_a anchors.allow_g cs) (searches_cost text.now at anchors.allow_a anchors.allow_g cs)
+        budget.old budget.new result }
+    ensures made { AreMadeEnds (S.tables table.now) ends.new.items }
+{
+    let Some(end) = frame.end else {
+        return own_end(alloc, patterns, frame.rule, text, at, anchors, budget);
+    };
+    let place = made_end(alloc, table, ends, end)?;
+    made_end_found(alloc, &ends[place], text, at, anchors, budget)
 }
 
 /// The candidate of an open rule that is found earliest from `at` on, the first in the rule's list on
-/// a tie. The rule's own end counts where `has_end` is set, and comes first in the list. `Budget` comes
-/// only where the searches cost more than the budget.
-pub fn winner(
+/// a tie. The rule's own end counts where `has_end` is set. `ends` are those that were made for this line.
+/// `Budget` comes only where the searches cost more than the budget.
+pub fn winner<S: States>(
     alloc: Global,
-    rules: &Rules,
+    table: &S,
+    patterns: &Patterns,
+    ends: &mut Vec<MadeEnd>,
     text: &Line,
     at: usize,
     anchors: Anchors,
     has_end: bool,
-    rule: u32,
+    frame: Frame,
     budget: &mut u64,
 ) -> Result<Option<Found>, FindFault>
+    requires frame { IsFrameOf (S.tables table.now) frame }
+    requires made { AreMadeEnds (S.tables table.now) ends.old.items }
     requires within { at ≤ length text.now }
     requires small { length text.now < 2 ^ 31 }
-    ensures { let cs = flattened_candidates (rules_data rules.now) has_end rule in
+    ensures found { let cs = candidates_in patterns.now (frame_at (S.tables table.now) frame) has_end in
         Searches (earliest text.now at anchors.allow_a anchors.allow_g cs) (searches_cost text.now at anchors.allow_a anchors.allow_g cs)
         budget.old budget.new result }
+    ensures made { AreMadeEnds (S.tables table.now) ends.new.items }
 {
-    let Some(inside) = rules.inside(rule) else {
+    let Some(inside) = patterns.inside(frame.rule) else {
         return Ok(None);
     };
-    match earliest_end(alloc, &inside.ends, text, at, anchors, has_end, budget) {
-        Ok(end) => earliest_with(alloc, inside, end, text, at, anchors, budget),
-        Err(fault) => Err(fault),
+    let numbers = inside.numbers.as_slice();
+    let start = earliest_start(alloc, patterns, numbers, text, at, anchors, budget)?;
+    let Some(end_last) = inside.end_last else {
+        return Ok(start);
+    };
+    if !has_end {
+        return Ok(start);
     }
+    let end = end_found(
+        alloc, table, patterns, ends, frame, text, at, anchors, budget,
+    )?;
+    Ok(earlier_in(end_last, start, end))
 }

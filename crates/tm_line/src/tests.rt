@@ -1,20 +1,19 @@
-ghost use Rattle.std.specs.Prelude.{◌≡◌, ◌<◌, ◌-◌, ◌^◌, [], length, IfOk, IsTrue};
-ghost use Rattle.tm_line.specs.Setting.{setting_data};
+ghost use Rattle.std.specs.Prelude.{◌≡◌, ◌<◌, ◌-◌, ◌^◌, [], length, IfOk};
 ghost use Rattle.tm_line.specs.Tokenizing.{rules_tokenized};
 
-use crate::rules::Rule;
-use crate::tokenizer::Setting;
+use crate::tokenizer::{Parts, Setting};
 use std::alloc::Global;
 use std::marker::Brand;
 use std::process::Abort;
 use std::sync::ledger::{Blank, Ledger};
 use std::test::Fail;
 use tm_defs::frames::{Frame, ScopeList, StateId, TextId};
-use tm_defs::rules::Numbers;
 use tm_defs::steps::Steps;
 use tm_defs::tables::{States, TableFault};
 use tm_defs::texts::{Line, Name};
 use tm_defs::tokenizer::{LineFault, LineOut, LineTok};
+use tm_grammar::grammar::RawGrammar;
+use tm_rules::grammars::Grammars;
 
 fn is_shared<T: Send + Sync>() {}
 
@@ -22,7 +21,6 @@ fn is_shared<T: Send + Sync>() {}
 #[test]
 fn settings_are_shared() {
     is_shared::<Setting>();
-    is_shared::<Rule>();
 }
 
 /// A table that holds what the root makes, and has no memory for more.
@@ -105,17 +103,24 @@ fn text(alloc: Global, chars: &str) -> Result<Vec<char>, Fail> {
     Ok(text)
 }
 
-/// A list whose only rule matches `b` without a name.
-fn bare_rules(alloc: Global) -> Result<Vec<Rule>, Fail> {
-    let bare = Rule::Match {
-        pattern: Name::new(text(alloc, "b")?),
-        name: None,
+/// A setting of this one grammar.
+fn setting(alloc: Global, grammar: &str) -> Result<Setting, Fail> {
+    let Ok(root) = RawGrammar::from_slice(alloc, grammar.as_bytes()) else {
+        return Err(Fail::from("no grammar"));
     };
-    let root = Rule::Only {
-        patterns: Numbers::new(vec![in alloc; 1]?),
+    let grammars = Grammars {
+        root,
+        more: Vec::new(alloc),
+        injected: Vec::new(alloc),
     };
-    Ok(vec![in alloc; root, bare]?)
+    match Setting::build(alloc, Parts { grammars }) {
+        Ok(setting) => Ok(setting),
+        Err(_) => Err(Fail::from("no setting")),
+    }
 }
+
+/// The only rule matches `b` without a name.
+const BARE: &str = r#"{"scopeName": "comment.t", "patterns": [{"match": "b"}]}"#;
 
 /// A line from the opening state.
 fn tokenized<S: States, L: Ledger>(
@@ -126,7 +131,7 @@ fn tokenized<S: States, L: Ledger>(
     steps: &mut Steps<L>,
 ) -> Result<LineOut, LineFault>
     requires { length line.now < 2 ^ 31 - 1 }
-    ensures { IfOk result (λ out. out.tokens ≡ (rules_tokenized (setting_data setting.now) [] line.now).tokens) }
+    ensures { IfOk result (λ out. out.tokens ≡ (rules_tokenized setting.now [] line.now).tokens) }
 {
     table.known();
     setting.line(table, StateId(0), line, budget, steps)
@@ -138,11 +143,9 @@ fn two_lines<L: Ledger>(rt: &impl Abort, alloc: Global, blank: Blank) -> Result<
     requires some { 0 < blank.parts }
 {
     let scope = Name::new(text(alloc, "comment.t")?);
-    let mut table = RootTable {
-        scope: scope.copy()?,
-    };
+    let mut table = RootTable { scope };
     let mut steps: Steps<L> = Steps::new(blank);
-    let setting = Setting::build(alloc, scope, bare_rules(alloc)?)?;
+    let setting = setting(alloc, BARE)?;
     let line = Line::new(vec![in alloc; 'a', 'b', 'b', 'a']?);
     let out = tokenized(&setting, &mut table, &line, 8, &mut steps)?;
     assert_eq!(rt; out.end, StateId(1));

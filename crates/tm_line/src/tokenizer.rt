@@ -1,18 +1,22 @@
 //! The tokenizer of rules of patterns.
-ghost use Rattle.std.specs.Prelude.{◌≡◌, ◌≤◌, ◌<◌, ◌^◌, ◌-◌, ◌++◌, ◌∷◌, [], length, IfOk, IfErr, slice_get, Some, reverse};
+ghost use Rattle.std.specs.Prelude.{◌≡◌, ◌↔◌, ◌≤◌, ◌<◌, ◌^◌, ◌-◌, ◌++◌, ◌∷◌, [], length, flat_map, IfOk, IfErr, IsErrOf, slice_get, Some, reverse};
 ghost use Rattle.tm_defs.specs.Tables.{GrowsWithin, IsFullForSome, state_at};
 ghost use Rattle.tm_defs.specs.declared.tokenizer.LineFault.TheVariants as fault;
 ghost use Rattle.tm_line_run.specs.Painted.{furthest, meta_at, runs_of};
 ghost use Rattle.tm_meta.specs.Metadata.{metadata_of};
 ghost use Rattle.tm_line.specs.Ran.{Tokenizes};
-ghost use Rattle.tm_line.specs.Rules.{rules_data};
-ghost use Rattle.tm_line.specs.Setting.{setting_of, setting_data};
+ghost use Rattle.tm_line.specs.Setting.{setting_of, setting_with};
+ghost use Rattle.tm_line_lint.specs.Unread.{unread_in};
+ghost use Rattle.tm_rules.specs.Rules.{plain_rules};
+ghost use Rattle.tm_rules.specs.Sizes.{rule_limit};
+ghost use Rattle.tm_rules.specs.declared.grammars.RulesFault.TheVariants as rules_fault;
+ghost use Rattle.tm_template.specs.Names.{words_of};
 ghost use Rattle.tm_line.specs.Tokenizing.{start_spot, start_state, start_made, top_contents};
 ghost use Rattle.tm_line.specs.Turned.{spot_of};
 
-use crate::rules::{Rule, Rules};
+use crate::patterns::Patterns;
 use crate::run::run;
-use crate::tables::{longer_list, push_frame};
+use crate::tables::{named_list, push_frame};
 use crate::turn::table_fault;
 use crate::way::Way;
 use std::alloc::{AllocError, Global};
@@ -22,39 +26,83 @@ use tm_defs::frames::{ScopeList, StateId};
 use tm_defs::memory::OutOfMemory;
 use tm_defs::steps::Steps;
 use tm_defs::tables::{States, TableFault};
-use tm_defs::texts::{Line, Name};
+use tm_defs::texts::{Line, Name, ScopePath};
 use tm_defs::tokenizer::{LineFault, LineOut, LineTok};
+use tm_line_lint::{Unread, unreadable};
 use tm_line_run::painter::{Painted, tokens_of};
 use tm_meta::metadata::{base_metadata, metadata};
+use tm_rules::grammars::{Grammars, RulesFault};
+use tm_rules::rules::Rules;
+use tm_template::names::words;
 
-/// A setting. Rule 0 is the root.
+/// What a setting is built from.
+#[derive(Drop)]
+pub struct Parts {
+    pub grammars: Grammars,
+}
+
+/// A setting. Contracts see the scopes of every token and the rules of its grammars by number; rule 0 is
+/// the root.
 #[derive(Drop)]
 pub struct Setting {
-    scope: Name,
-    rules: Rules,
+    scopes: ScopePath,
+    patterns: Patterns,
+    unread: Vec<Unread>,
     alloc: Global,
 }
 
 impl Model for Setting {
-    ghost use Rattle.tm_line.specs.Setting.{BuiltSetting};
+    ghost use Rattle.std.specs.Prelude.{◌≡◌, flat_map};
+    ghost use Rattle.tm_line.specs.Setting.{Setting, setting_with};
+    ghost use Rattle.tm_line_lint.specs.Unread.{unread_in};
 
-    ghost Value = { BuiltSetting };
+    ghost Value = { Setting };
 
-    ghost view = { λ a. record { scope = a.scope; rules = a.rules } };
+    ghost view = { λ a. setting_with a.scopes a.patterns };
+
+    ghost invariant = { λ a. a.unread.items ≡ flat_map unread_in a.patterns };
+}
+
+/// A setting of these rules. The scope name of the root grammar gives the scopes.
+fn setting_of(alloc: Global, scope_name: &Name, rules: Rules) -> Result<Setting, OutOfMemory>
+    ensures { IfOk result (λ setting. setting ≡ setting_with (words_of scope_name.now) rules) }
+{
+    let scopes = words(alloc, scope_name)?;
+    let unread = unreadable(alloc, &rules)?;
+    let patterns = Patterns::build(alloc, rules)?;
+    Ok(Setting {
+        scopes,
+        patterns,
+        unread,
+        alloc,
+    })
 }
 
 impl Setting {
-    /// A setting of these rules, whose patterns are read once and for all. `scope` is the grammar's scope,
-    /// which every token has; each line takes its buffers from `alloc`.
-    pub fn build(alloc: Global, scope: Name, rules: Vec<Rule>) -> Result<Self, OutOfMemory>
-        ensures { IfOk result (λ setting. setting_data setting ≡ setting_of scope (rules_data rules.items)) }
+    /// A setting of these grammars, whose patterns are read once and for all. Each line takes its buffers
+    /// from `alloc`. A pattern that is unreadable matches nowhere. Captures and the patterns of `while` are
+    /// kept and not used: a rule with `while` begins, and does not end.
+    pub fn build(alloc: Global, parts: Parts) -> Result<Self, RulesFault>
+        ensures setting { IfOk result (λ setting. setting ≡ setting_of parts.grammars) }
+        // They are refused exactly where there are more than 65,535 rules.
+        ensures many { IsErrOf result rules_fault.TooManyRules ↔ (rule_limit < length (plain_rules parts.grammars)) }
     {
-        let rules = Rules::build(alloc, rules)?;
-        Ok(Setting {
-            scope,
-            rules,
-            alloc,
-        })
+        let rules = match Rules::build(alloc, &parts.grammars) {
+            Ok(rules) => rules,
+            Err(fault) => return Err(fault),
+        };
+        match setting_of(alloc, parts.grammars.root.scope_name(), rules) {
+            Ok(setting) => Ok(setting),
+            Err(_) => Err(RulesFault::OutOfMemory),
+        }
+    }
+
+    /// The unreadable patterns, by rising number of their rules, and of one rule in the order begin, end,
+    /// match, while.
+    pub fn unreadable(&self) -> &[Unread]
+        ensures { result.now ≡ flat_map unread_in self.now.rules }
+    {
+        self.unread.as_slice()
     }
 }
 
@@ -69,22 +117,26 @@ fn with_break(alloc: Global, line: &Line) -> Result<Vec<char>, AllocError>
 }
 
 /// The state with which a line begins: at the opening state that of the root.
-fn start_of<S: States>(table: &mut S, scope: &Name, start: StateId) -> Result<StateId, TableFault>
+fn start_of<S: States>(
+    table: &mut S,
+    scopes: &ScopePath,
+    start: StateId,
+) -> Result<StateId, TableFault>
     requires { start.0 < length (S.tables table.old).states }
     ensures ok { let state = state_at (S.tables table.old) start in
         IfOk result (λ id. slice_get (S.tables table.new).states id.0 ≡
-        Some (start_state scope.now state)) }
+        Some (start_state scopes.now state)) }
     ensures grows { let state = state_at (S.tables table.old) start in
-        GrowsWithin (start_made scope.now state) (S.tables table.old) (S.tables table.new) }
+        GrowsWithin (start_made scopes.now state) (S.tables table.old) (S.tables table.new) }
     ensures full { let state = state_at (S.tables table.old) start in
-        IfErr result (IsFullForSome (start_made scope.now state) (S.tables table.new)) }
+        IfErr result (IsFullForSome (start_made scopes.now state) (S.tables table.new)) }
 {
     table.known();
     if start.0 != 0 {
         return Ok(start);
     }
-    match longer_list(table, ScopeList(0), scope) {
-        Ok(path) => push_frame(table, start, path, path, 0, false),
+    match named_list(table, ScopeList(0), scopes) {
+        Ok(path) => push_frame(table, start, path, path, 0, &None, false),
         Err(fault) => Err(fault),
     }
 }
@@ -150,15 +202,15 @@ fn start_way<S: States>(alloc: Global, table: &S, start: StateId) -> Way
 fn tokenized_line<S: States>(
     alloc: Global,
     table: &mut S,
-    scope: &Name,
-    rules: &Rules,
+    scopes: &ScopePath,
+    patterns: &Patterns,
     start: StateId,
     line: &Line,
     budget: u64,
 ) -> Result<LineOut, LineFault>
     requires start { start.0 < length (S.tables table.old).states }
     requires short { length line.now < 2 ^ 31 - 1 }
-    ensures { Tokenizes (setting_of scope.now (rules_data rules.now)) (state_at (S.tables table.old) start) line.now
+    ensures { Tokenizes (setting_with scopes.now patterns.now) (state_at (S.tables table.old) start) line.now
         (S.tables table.old) (S.tables table.new) budget result }
 {
     let Ok(chars) = with_break(alloc, line) else {
@@ -166,17 +218,19 @@ fn tokenized_line<S: States>(
     };
     let text = Line::new(chars);
     let mut way = start_way(alloc, table, start);
-    let state = match start_of(table, scope, start) {
+    let state = match start_of(table, scopes, start) {
         Ok(state) => state,
         Err(fault) => return Err(table_fault(fault)),
     };
     let mut pieces = Vec::new(alloc);
+    let mut made = Vec::new(alloc);
     let mut left = budget;
     match run(
         alloc,
         table,
         &mut pieces,
-        rules,
+        patterns,
+        &mut made,
         &text,
         state,
         &mut way,
@@ -188,12 +242,12 @@ fn tokenized_line<S: States>(
 }
 
 impl LineTok for Setting {
-    ghost use Rattle.tm_line.specs.Setting.{Setting, setting_data};
+    ghost use Rattle.tm_line.specs.Setting.{Setting};
     ghost use Rattle.tm_line.specs.Tokenizing.{rules_tokenized, rules_cost, rules_made};
 
     ghost Plain = { Setting };
 
-    ghost plain = { setting_data };
+    ghost plain = { λ setting. setting };
 
     ghost tokenized = { rules_tokenized };
 
@@ -213,8 +267,8 @@ impl LineTok for Setting {
         tokenized_line(
             self.alloc,
             table,
-            &self.scope,
-            &self.rules,
+            &self.scopes,
+            &self.patterns,
             start,
             line,
             budget,

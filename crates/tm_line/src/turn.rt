@@ -3,29 +3,29 @@
 //! A turn searches the candidates of the open rule and does one of the four cases of the line
 //! relation: nothing is found, the open rule ends, a rule matches, a rule begins. Each case is a
 //! function here.
-ghost use Rattle.std.specs.Prelude.{◌≡◌, ◌<◌, ◌≤◌, ◌++◌, ◌∷◌, ◌==◌, ◌^◌, [], length, IfOk, OnOk, IfErr, slice_get, Some, reverse, IsTrue};
-ghost use Rattle.std.specs.Option.{option_to_list};
+ghost use Rattle.std.specs.Prelude.{◌≡◌, ◌<◌, ◌≤◌, ◌++◌, ◌∷◌, ◌==◌, ◌^◌, [], length, IfOk, IfSome, OnOk, IfErr, slice_get, Some, reverse, IsTrue};
 ghost use Rattle.tm_defs.specs.Tables.{GrowsWithin, IsFullForSome, path_at, state_at, frame_at, only_state};
 ghost use Rattle.tm_defs.specs.declared.tables.TableFault.TheVariants as fault;
 ghost use Rattle.tm_line_run.specs.Painted.{painted};
-ghost use Rattle.tm_line_run.specs.LineRun.{names_made, opened, closing, piece, popped, popped_contents, paints, some_open, rests, ended, matched, begun, turn as turn_at};
+ghost use Rattle.tm_line_run.specs.LineRun.{closing, ended, matched, names_made, paints, piece, popped, popped_contents, rests, some_open, turn as turn_at};
+ghost use Rattle.tm_onig_search.specs.Find.{AreWithin};
 ghost use Rattle.tm_line.specs.Grammar.{match_of, rules_grammar};
+ghost use Rattle.tm_line.specs.MadeEnds.{AreMadeEnds};
 ghost use Rattle.tm_meta.specs.Metadata.{metadata_of};
-ghost use Rattle.tm_line.specs.Rules.{rules_data};
 ghost use Rattle.tm_line.specs.Tokenizing.{Spot, place_of};
-ghost use Rattle.tm_line.specs.Turned.{Does, GoesOnAt, IsHere, StopsAt, Takes, entered_spot, of_search, of_table, place_here, spot_of, taken_turn, turn_of};
+ghost use Rattle.tm_line.specs.Turned.{Does, IsHere, StopsAt, Takes, line_result, of_search, of_table, place_here, spot_of, taken_turn};
 
-use crate::begin::begins;
-use crate::rules::{Found, Rule, Rules};
+use crate::ends::MadeEnd;
+use crate::found::Found;
+use crate::patterns::Patterns;
 use crate::search::{Anchors, winner};
+use crate::starts::starts;
 use crate::tables::named_list;
-use crate::way::{
-    Way, advances, enters, goes_on, is_anchored, is_stuck_begin, is_stuck_end, leaves,
-};
+use crate::way::{Way, advances, goes_on, is_anchored, is_stuck_end, leaves};
 use std::alloc::Global;
 use tm_defs::frames::{Frame, ScopeList, StateId};
 use tm_defs::tables::{States, TableFault};
-use tm_defs::texts::{Line, Name};
+use tm_defs::texts::{Line, ScopePath};
 use tm_defs::tokenizer::LineFault;
 use tm_line_run::painter::Painted;
 use tm_meta::metadata::paint;
@@ -52,12 +52,12 @@ fn paint_both<S: States>(
     pieces: &mut Vec<Painted>,
     outer: ScopeList,
     inner: ScopeList,
-    found: Found,
+    found: &Found,
 ) -> Result<(), TableFault>
     requires outer { outer.0 < length (S.tables table.now).paths }
     requires inner { inner.0 < length (S.tables table.now).paths }
     ensures ok { let below = path_at (S.tables table.now) outer in
-        let paint = paints below (path_at (S.tables table.now) inner) (match_of found) in
+        let paint = paints below (path_at (S.tables table.now) inner) (match_of found.now) in
         OnOk result (pieces.new.items ≡ pieces.old.items ++ painted metadata_of paint) }
     ensures err { IfErr result (λ cause. cause ≡ fault.OutOfMemory) }
 {
@@ -75,25 +75,21 @@ pub fn paint_named<S: States>(
     table: &mut S,
     pieces: &mut Vec<Painted>,
     outer: ScopeList,
-    name: &Option<Name>,
-    found: Found,
+    names: &ScopePath,
+    found: &Found,
 ) -> Result<ScopeList, TableFault>
     requires { outer.0 < length (S.tables table.old).paths }
-    ensures ok { let names = option_to_list name.now in
-        IfOk result (λ id. slice_get (S.tables table.new).paths id.0 ≡
-        Some (path_at (S.tables table.old) outer ++ names)) }
+    ensures ok { IfOk result (λ id. slice_get (S.tables table.new).paths id.0 ≡
+        Some (path_at (S.tables table.old) outer ++ names.now)) }
     ensures pieces { let path = path_at (S.tables table.old) outer in
-        let names = option_to_list name.now in
         OnOk result (pieces.new.items ≡
-        pieces.old.items ++ painted metadata_of (paints path (path ++ names) (match_of found))) }
-    ensures grows { let names = option_to_list name.now in
-        GrowsWithin (names_made (path_at (S.tables table.old) outer) names)
+        pieces.old.items ++ painted metadata_of (paints path (path ++ names.now) (match_of found.now))) }
+    ensures grows { GrowsWithin (names_made (path_at (S.tables table.old) outer) names.now)
         (S.tables table.old) (S.tables table.new) }
-    ensures full { let names = option_to_list name.now in
-        IfErr result (IsFullForSome (names_made (path_at (S.tables table.old) outer) names)
+    ensures full { IfErr result (IsFullForSome (names_made (path_at (S.tables table.old) outer) names.now)
         (S.tables table.new)) }
 {
-    match named_list(table, outer, name) {
+    match named_list(table, outer, names) {
         Ok(inner) => {
             let Ok(()) = paint_both(table, pieces, outer, inner, found) else {
                 return Err(TableFault::OutOfMemory);
@@ -159,12 +155,12 @@ fn ends<S: States>(
     pieces: &mut Vec<Painted>,
     here: Here,
     way: &mut Way,
-    found: Found,
+    found: &Found,
     len: usize,
 ) -> Result<Next, TableFault>
     requires { IsHere (S.tables table.old) here }
     ensures { let p = place_here (S.tables table.old) here (spot_of way.old) in
-        Does (ended len p (match_of found) p.below) (S.tables table.old) (S.tables table.new) pieces.old.items pieces.new.items (spot_of way.new) result }
+        Does (ended len p (match_of found.now) p.below) (S.tables table.old) (S.tables table.new) pieces.old.items pieces.new.items (spot_of way.new) result }
 {
     if !has_frames(table, here.below) {
         return rest(table, pieces, here, len);
@@ -205,21 +201,21 @@ fn stuck_match<S: States>(
 }
 
 /// A rule matches.
-fn matches<S: States>(
+pub fn matches<S: States>(
     table: &mut S,
     pieces: &mut Vec<Painted>,
     here: Here,
     way: &mut Way,
-    found: Found,
-    name: &Option<Name>,
+    found: &Found,
+    names: &ScopePath,
     len: usize,
 ) -> Result<Next, TableFault>
     requires { IsHere (S.tables table.old) here }
     ensures { let p = place_here (S.tables table.old) here (spot_of way.old) in
-        Does (matched len p (match_of found) (option_to_list name.now))
+        Does (matched len p (match_of found.now) names.now)
         (S.tables table.old) (S.tables table.new) pieces.old.items pieces.new.items (spot_of way.new) result }
 {
-    if let Err(fault) = paint_named(table, pieces, here.frame.contents, name, found) {
+    if let Err(fault) = paint_named(table, pieces, here.frame.contents, names, found) {
         return Err(fault);
     }
     if !advances(way, found.end) {
@@ -227,40 +223,6 @@ fn matches<S: States>(
     }
     goes_on(way, found.end);
     Ok(Next::GoesOn(here.state))
-}
-
-/// The rule of a number is found.
-fn starts<S: States>(
-    table: &mut S,
-    pieces: &mut Vec<Painted>,
-    rules: &Rules,
-    here: Here,
-    way: &mut Way,
-    found: Found,
-    n: u32,
-    len: usize,
-) -> Result<Next, TableFault>
-    requires { IsHere (S.tables table.old) here }
-    ensures { let p = place_here (S.tables table.old) here (spot_of way.old) in
-        Does (turn_of len p found n (slice_get (rules_data rules.now) n))
-        (S.tables table.old) (S.tables table.new) pieces.old.items pieces.new.items (spot_of way.new) result }
-{
-    match rules.rule(n) {
-        Some(Rule::Match { pattern: _, name }) => {
-            matches(table, pieces, here, way, found, name, len)
-        }
-        Some(
-            Rule::BeginEnd {
-                begin: _,
-                end: _,
-                name,
-                content_name,
-                patterns: _,
-            },
-        ) => begins(table, pieces, here, way, found, n, name, content_name, len),
-        Some(Rule::Only { patterns: _ }) => rest(table, pieces, here, len),
-        None => rest(table, pieces, here, len),
-    }
 }
 
 /// Whether a state has frames.
@@ -282,6 +244,16 @@ pub fn table_fault(fault: TableFault) -> LineFault
     }
 }
 
+/// What calls of a table gave, as what a line gives.
+fn line_result(done: Result<Next, TableFault>) -> Result<Next, LineFault>
+    ensures { result ≡ line_result done }
+{
+    match done {
+        Ok(next) => Ok(next),
+        Err(fault) => Err(table_fault(fault)),
+    }
+}
+
 /// A refusal of a search, as one of a line.
 fn search_fault(fault: FindFault) -> LineFault
     ensures { result ≡ of_search fault }
@@ -294,35 +266,38 @@ fn search_fault(fault: FindFault) -> LineFault
 
 /// What was found is done.
 fn taken<S: States>(
+    alloc: Global,
     table: &mut S,
     pieces: &mut Vec<Painted>,
-    rules: &Rules,
+    patterns: &Patterns,
     here: Here,
     way: &mut Way,
-    winner: Option<Found>,
-    len: usize,
+    winner: &Option<Found>,
+    text: &Line,
 ) -> Result<Next, TableFault>
-    requires { IsHere (S.tables table.old) here }
+    requires here { IsHere (S.tables table.old) here }
+    requires within { IfSome winner.now (λ found. AreWithin (length text.now) found.caps) }
     ensures { let p = place_here (S.tables table.old) here (spot_of way.old) in
-        Does (taken_turn (rules_data rules.now) len p winner)
+        Does (taken_turn patterns.now text.now p winner.now)
         (S.tables table.old) (S.tables table.new) pieces.old.items pieces.new.items (spot_of way.new) result }
 {
     match winner {
         Some(found) => match found.candidate {
-            Some(n) => starts(table, pieces, rules, here, way, found, n, len),
-            None => ends(table, pieces, here, way, found, len),
+            Some(n) => starts(alloc, table, pieces, patterns, here, way, found, n, text),
+            None => ends(table, pieces, here, way, found, text.as_slice().len()),
         },
-        None => rest(table, pieces, here, len),
+        None => rest(table, pieces, here, text.as_slice().len()),
     }
 }
 
 /// One turn at a state and on a way, which it leaves where the line goes on. Its searches take from the
-/// budget, which is in steps.
+/// budget, which is in steps. `made` are the ends that were made for this line.
 pub fn turn<S: States>(
     alloc: Global,
     table: &mut S,
     pieces: &mut Vec<Painted>,
-    rules: &Rules,
+    patterns: &Patterns,
+    made: &mut Vec<MadeEnd>,
     text: &Line,
     state: StateId,
     way: &mut Way,
@@ -330,12 +305,14 @@ pub fn turn<S: States>(
 ) -> Result<Next, LineFault>
     requires state { state.0 < length (S.tables table.old).states }
     requires some { IsTrue (some_open (reverse (state_at (S.tables table.old) state))) }
+    requires made { AreMadeEnds (S.tables table.old) made.old.items }
     requires within { way.old.at ≤ length text.now }
     requires small { length text.now < 2 ^ 31 }
-    ensures { let p = place_of (reverse (state_at (S.tables table.old) state)) (spot_of way.old) in
-        Takes (turn_at (rules_grammar (rules_data rules.now) text.now) p)
+    ensures takes { let p = place_of (reverse (state_at (S.tables table.old) state)) (spot_of way.old) in
+        Takes (turn_at (rules_grammar patterns.now text.now) p)
         (S.tables table.old) (S.tables table.new) pieces.old.items pieces.new.items (spot_of way.new)
         budget.old budget.new result }
+    ensures made { AreMadeEnds (S.tables table.new) made.new.items }
 {
     let Some((frame, below)) = table.top(state) else {
         unreachable!();
@@ -351,21 +328,11 @@ pub fn turn<S: States>(
         allow_g: is_anchored(way),
     };
     match winner(
-        alloc, rules, text, way.at, anchors, has_end, frame.rule, budget,
+        alloc, table, patterns, made, text, way.at, anchors, has_end, frame, budget,
     ) {
         Ok(found) => {
-            match taken(
-                table,
-                pieces,
-                rules,
-                here,
-                way,
-                found,
-                text.as_slice().len(),
-            ) {
-                Ok(next) => Ok(next),
-                Err(fault) => Err(table_fault(fault)),
-            }
+            let done = taken(alloc, table, pieces, patterns, here, way, &found, text);
+            line_result(done)
         }
         Err(fault) => Err(search_fault(fault)),
     }

@@ -1,13 +1,27 @@
 -- Which of several patterns is found first in a line, and what the searches cost.
-use Rattle.std.specs.Prelude.{◌≡◌, ℕ, ◌+◌, List, [], ◌∷◌, map, Bool, if◌then◌else◌, Option, Some, None, option_map, nat_lt, slice_get}
+use Rattle.std.specs.Prelude.{◌≡◌, ℕ, ◌+◌, List, [], ◌∷◌, map, Bool, if◌then◌else◌, Option, Some, None, option_map, nat_lt, slice_get, slice_index_or}
 use Rattle.tm_onig_class.specs.declared.patterns.Pattern.{Pattern}
 use Rattle.tm_onig_class.specs.Tree.{Tree, tree_of}
+use Rattle.tm_onig_parse.specs.Reading.{parsed}
 use Rattle.tm_onig_search.specs.Outcomes.{Caps}
 use Rattle.tm_onig_search.specs.Find.{first_match, search_cost}
 
 -- the tree of each pattern, or none where a text is no pattern
 abbrev pub trees_of : List (Option Pattern) → List (Option Tree)
 trees_of patterns = map (option_map tree_of) patterns
+
+-- the tree of a pattern's text; none where there is no text, or where it is no pattern
+abbrev pub parsed_if : Option (List ℕ) → Option Tree
+parsed_if None = None
+parsed_if (Some text) = parsed text
+
+-- the pattern of a number; a number beyond the list has none
+abbrev pub pattern_at : List (Option Tree) → ℕ → Option Tree
+pattern_at patterns number = slice_index_or patterns number None
+
+-- the patterns of these numbers, in their order
+abbrev pub patterns_at : List (Option Tree) → List ℕ → List (Option Tree)
+patterns_at patterns numbers = map (pattern_at patterns) numbers
 
 -- the pattern of this number is readable: it has a tree
 abbrev pub IsReadable : List (Option Tree) → ℕ → Type 0

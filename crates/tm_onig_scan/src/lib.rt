@@ -1,9 +1,10 @@
 //! Searches a line for several patterns at once.
 //!
-//! A `Scanner` is made of the texts of its patterns, once, and then searches lines again and again: of all
-//! patterns the one that is found earliest wins, the first in the list on a tie. The patterns are searched
-//! one after another, each from the same position on, and what one search leaves of the budget is the
-//! budget of the next. So a scan takes the steps of all these searches.
+//! A `Scanner` is made of the texts of its patterns, all at once or one after another, and searches lines
+//! again and again: of all patterns, or of those of a list of numbers, the one that is found earliest wins,
+//! the first in the list on a tie. The patterns are searched one after another, each from the same position
+//! on, and what one search leaves of the budget is the budget of the next. So a scan takes the steps of all
+//! these searches.
 //!
 //! The patterns `b`, `(`, `ab` and `a` in the line `ab`:
 //!
@@ -14,14 +15,16 @@
 //! | 2 | `ab` | 0 to 2 | 4 |
 //! | 3 | `a` | 0 to 1 | 2 |
 //!
-//! Pattern 2 wins, and the scan takes 9 steps.
+//! Pattern 2 wins, and the scan takes 9 steps. Among the numbers 0, 3 and 2 pattern 3 wins, at place 1, and
+//! the scan takes 9 steps too.
 #![tactic(auto)]
 
-ghost use Rattle.std.specs.Prelude.{◌≡◌, ◌↔◌, ◌+◌, ◌<◌, ◌≤◌, ◌^◌, ℕ, Bool, List, Option, length, map, option_map, Some, IsTrue, OnOk, IfOk, IsErrOf};
+ghost use Rattle.std.specs.Option.{option_copied};
+ghost use Rattle.std.specs.Prelude.{◌≡◌, ◌↔◌, ◌+◌, ◌++◌, ◌<◌, ◌≤◌, ◌^◌, ℕ, Bool, List, [], ◌∷◌, Option, length, map, option_map, Some, IsTrue, OnOk, OnErr, IfOk, IsErrOf};
 ghost use Rattle.tm_onig_class.specs.Tree.{Tree, tree_of};
 ghost use Rattle.tm_onig_parse.specs.Reading.{parsed};
 ghost use Rattle.tm_onig_search.specs.Outcomes.{Caps};
-ghost use Rattle.tm_onig_scan.specs.Winner.{trees_of, IsReadable, start_of, earlier, found, found_cost, earliest_winner, scan_cost};
+ghost use Rattle.tm_onig_scan.specs.Winner.{trees_of, parsed_if, pattern_at, patterns_at, IsReadable, start_of, earlier, found, found_cost, earliest_winner, scan_cost};
 ghost use Rattle.tm_onig_scan.specs.WinnerLaws.{IsEarliest, IsWinner};
 
 #[cfg(test)]
@@ -74,6 +77,16 @@ fn program_of(alloc: Global, text: &Name) -> Result<Option<Prog>, OutOfMemory>
     }
 }
 
+/// The same where there may be no text.
+fn program_if(alloc: Global, text: Option<&Name>) -> Result<Option<Prog>, OutOfMemory>
+    ensures { IfOk result (λ program. option_map tree_of program ≡ parsed_if (option_copied text.entry)) }
+{
+    match text {
+        Some(text) => program_of(alloc, text),
+        None => Ok(None),
+    }
+}
+
 /// Where the whole match starts.
 fn start(caps: &Caps) -> u32
     ensures { result ≡ start_of caps.now }
@@ -99,10 +112,20 @@ fn earlier_of(a: Option<(u32, Caps)>, b: Option<(u32, Caps)>) -> Option<(u32, Ca
     }
 }
 
+/// The program of a number, if it has one; a number beyond the list has none.
+fn program_at(programs: &[Option<Prog>], number: u32) -> Option<&Prog>
+    ensures { option_map tree_of (option_copied result) ≡ pattern_at (trees_of programs.now) number }
+{
+    match programs.get(number as usize) {
+        Some(Some(program)) => Some(program),
+        _ => None,
+    }
+}
+
 /// The first match of a program, if there is one.
 fn found_by(
     alloc: Global,
-    program: &Option<Prog>,
+    program: Option<&Prog>,
     line: &Line,
     from: u32,
     allow_a: bool,
@@ -110,10 +133,10 @@ fn found_by(
     budget: &mut u64,
 ) -> Result<Option<Caps>, FindFault>
     requires small { length line.now < 2 ^ 31 }
-    ensures hit { let tree = option_map tree_of program.now in IfOk result (λ caps. caps ≡ found line.now from allow_a allow_g tree) }
-    ensures cost { let tree = option_map tree_of program.now in OnOk result (budget.new + found_cost line.now from allow_a allow_g tree ≡ budget.old) }
-    ensures over { let tree = option_map tree_of program.now in IsErrOf result FindFault.Budget → budget.old < found_cost line.now from allow_a allow_g tree }
-    ensures falls { let tree = option_map tree_of program.now in (budget.new ≤ budget.old) × (budget.old ≤ budget.new + found_cost line.now from allow_a allow_g tree) }
+    ensures hit { let tree = option_map tree_of (option_copied program.entry) in IfOk result (λ caps. caps ≡ found line.now from allow_a allow_g tree) }
+    ensures cost { let tree = option_map tree_of (option_copied program.entry) in OnOk result (budget.new + found_cost line.now from allow_a allow_g tree ≡ budget.old) }
+    ensures over { let tree = option_map tree_of (option_copied program.entry) in IsErrOf result FindFault.Budget → budget.old < found_cost line.now from allow_a allow_g tree }
+    ensures falls { let tree = option_map tree_of (option_copied program.entry) in (budget.new ≤ budget.old) × (budget.old ≤ budget.new + found_cost line.now from allow_a allow_g tree) }
 {
     match program {
         Some(program) => find(alloc, program, line, from, allow_a, allow_g, budget),
@@ -131,20 +154,64 @@ fn numbered(number: u32, found: Option<Caps>) -> Option<(u32, Caps)>
     }
 }
 
+/// The earlier of the best match so far and of the first match of a program, the best so far on a tie.
+fn earlier_with(
+    alloc: Global,
+    best: Option<(u32, Caps)>,
+    number: u32,
+    program: Option<&Prog>,
+    line: &Line,
+    from: u32,
+    allow_a: bool,
+    allow_g: bool,
+    budget: &mut u64,
+) -> Result<Option<(u32, Caps)>, FindFault>
+    requires small { length line.now < 2 ^ 31 }
+    ensures hit { let tree = option_map tree_of (option_copied program.entry) in
+        IfOk result (λ won. won ≡ earlier best (option_map (λ caps. (number, caps)) (found line.now from allow_a allow_g tree))) }
+    ensures cost { let tree = option_map tree_of (option_copied program.entry) in OnOk result (budget.new + found_cost line.now from allow_a allow_g tree ≡ budget.old) }
+    ensures over { let tree = option_map tree_of (option_copied program.entry) in IsErrOf result FindFault.Budget → budget.old < found_cost line.now from allow_a allow_g tree }
+    ensures falls { let tree = option_map tree_of (option_copied program.entry) in (budget.new ≤ budget.old) × (budget.old ≤ budget.new + found_cost line.now from allow_a allow_g tree) }
+{
+    let found = found_by(alloc, program, line, from, allow_a, allow_g, budget)?;
+    Ok(earlier_of(best, numbered(number, found)))
+}
+
 impl Scanner {
+    /// A scanner without patterns.
+    pub fn new(alloc: Global) -> Self
+        ensures { trees_of result ≡ [] }
+    {
+        Scanner {
+            programs: Vec::new(alloc),
+        }
+    }
+
+    /// Adds the pattern of a text behind the others; where there is no text, a place at which nothing
+    /// matches. A pattern beyond 2^32 - 1 is answered as want of memory. After a refusal the scanner is as
+    /// before.
+    pub fn push(&mut self, alloc: Global, text: Option<&Name>) -> Result<(), OutOfMemory>
+        ensures ok { OnOk result (trees_of self.new ≡ trees_of self.old ++ parsed_if (option_copied text.entry) ∷ []) }
+        ensures err { OnErr result (self.new ≡ self.old) }
+    {
+        if self.programs.len() >= u32::MAX as usize {
+            return Err(OutOfMemory);
+        }
+        let program = program_if(alloc, text)?;
+        self.programs.push(program)?;
+        Ok(())
+    }
+
     /// A scanner for the patterns of these texts, in this order. A list of 2^32 texts or more is answered
     /// as want of memory.
     pub fn build(alloc: Global, patterns: &[Name]) -> Result<Self, OutOfMemory>
         ensures { IfOk result (λ scanner. trees_of scanner ≡ map parsed patterns.now) }
     {
-        if patterns.len() > u32::MAX as usize {
-            return Err(OutOfMemory);
-        }
-        let mut programs = Vec::new(alloc);
+        let mut scanner = Scanner::new(alloc);
         for text in patterns {
-            programs.push(program_of(alloc, text)?)?;
+            scanner.push(alloc, Some(text))?;
         }
-        Ok(Scanner { programs })
+        Ok(scanner)
     }
 
     /// How many patterns there are, the unreadable ones too.
@@ -185,8 +252,63 @@ impl Scanner {
     {
         let mut best = None;
         for (number, program) in self.programs.iter().enumerate() {
-            let found = found_by(alloc, program, line, from, allow_a, allow_g, budget)?;
-            best = earlier_of(best, numbered(number as u32, found));
+            let program = program.as_ref();
+            best = earlier_with(
+                alloc,
+                best,
+                number as u32,
+                program,
+                line,
+                from,
+                allow_a,
+                allow_g,
+                budget,
+            )?;
+        }
+        Ok(best)
+    }
+
+    /// As `next`, of the patterns of these numbers alone: the one that is found earliest, the first in the
+    /// list of numbers on a tie, with its place in that list. A number beyond the patterns is as one whose
+    /// pattern is unreadable, and a pattern that is listed twice is searched twice. A list of 2^32 numbers
+    /// or more is answered as want of memory.
+    pub fn next_among(
+        &self,
+        alloc: Global,
+        numbers: &[u32],
+        line: &Line,
+        from: u32,
+        allow_a: bool,
+        allow_g: bool,
+        budget: &mut u64,
+    ) -> Result<Option<(u32, Caps)>, FindFault>
+        requires small { length line.now < 2 ^ 31 }
+        ensures hit { let patterns = patterns_at (trees_of self.now) numbers.now in
+            IfOk result (λ winner. winner ≡ earliest_winner line.now from allow_a allow_g patterns) }
+        ensures cost { let patterns = patterns_at (trees_of self.now) numbers.now in
+            OnOk result (budget.new + scan_cost line.now from allow_a allow_g patterns ≡ budget.old) }
+        ensures over { let patterns = patterns_at (trees_of self.now) numbers.now in
+            IsErrOf result FindFault.Budget → budget.old < scan_cost line.now from allow_a allow_g patterns }
+        ensures falls { let patterns = patterns_at (trees_of self.now) numbers.now in
+            (budget.new ≤ budget.old) × (budget.old ≤ budget.new + scan_cost line.now from allow_a allow_g patterns) }
+    {
+        if numbers.len() > u32::MAX as usize {
+            return Err(FindFault::OutOfMemory);
+        }
+        let mut best = None;
+        for (place, number) in numbers.iter().enumerate() {
+            let program = program_at(self.programs.as_slice(), *number);
+            best = earlier_with(
+                alloc,
+                best,
+                place as u32,
+                program,
+                line,
+                from,
+                allow_a,
+                allow_g,
+                budget,
+            )?;
         }
         Ok(best)
     }

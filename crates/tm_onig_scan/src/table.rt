@@ -82,3 +82,33 @@ pub(crate) const PAID: [Paid; 8] = [
     (&[], "ab", 0, "none; 0"),
     (&["(", "*"], "ab", 0, "none; 0"),
 ];
+
+/// The patterns that are searched by their numbers.
+pub(crate) const AMONG_PATTERNS: [&str; 5] = ["b", "ab", "(", "a", "(b)|a"];
+
+/// The numbers, a text, the start, a budget, and what is found first, with its place among the numbers and
+/// the cost. In the line `ab` from 0 on the patterns cost 3, 4, 0, 2 and 5 steps.
+pub(crate) type Among = (&'static [u32], &'static str, u32, u64, &'static str);
+
+pub(crate) const AMONG: [Among; 20] = [
+    (&[], "ab", 0, 0, "none; 0"),
+    (&[0], "ab", 0, 9, "0: 1..2; 3"),
+    (&[3], "ab", 0, 9, "0: 0..1; 2"),
+    (&[1, 3], "ab", 0, 9, "0: 0..2; 6"),
+    (&[3, 1], "ab", 0, 9, "0: 0..1; 6"),
+    (&[0, 1, 3], "ab", 0, 9, "1: 0..2; 9"),
+    (&[0, 3, 1], "ab", 0, 9, "1: 0..1; 9"),
+    (&[0, 0], "ab", 0, 9, "0: 1..2; 6"),
+    (&[3, 3, 1], "ab", 0, 9, "0: 0..1; 8"),
+    (&[0, 3, 0, 3], "ab", 0, 10, "1: 0..1; 10"),
+    (&[2], "ab", 0, 0, "none; 0"),
+    (&[2, 0, 2, 3], "ab", 0, 9, "3: 0..1; 5"),
+    (&[5], "ab", 0, 0, "none; 0"),
+    (&[5, 0], "ab", 0, 9, "1: 1..2; 3"),
+    (&[0, 4_294_967_295, 3], "ab", 0, 9, "2: 0..1; 5"),
+    (&[4, 3], "ab", 0, 9, "0: 0..1 -; 7"),
+    (&[3, 4], "ab", 0, 9, "0: 0..1; 7"),
+    (&[3, 0], "ab", 1, 9, "1: 1..2; 4"),
+    (&[0, 1, 3], "ab", 0, 8, "Budget"),
+    (&[0, 0], "ab", 0, 5, "Budget"),
+];

@@ -1,7 +1,7 @@
 ghost use Rattle.std.specs.Prelude.{◌<◌, ◌^◌, length, IfOk};
 
 use crate::Scanner;
-use crate::table::{ANCHORED, PAID, ROWS};
+use crate::table::{AMONG, AMONG_PATTERNS, ANCHORED, PAID, ROWS};
 use sqlite_items::Items;
 use std::alloc::{AllocError, Global};
 use std::test::Fail;
@@ -41,6 +41,15 @@ fn scanner(alloc: Global, patterns: &[&str]) -> Result<Scanner, Fail> {
     Ok(Scanner::build(alloc, names.as_slice())?)
 }
 
+/// Adds a pattern, or a place at which nothing matches.
+fn add(alloc: Global, scanner: &mut Scanner, text: Option<&str>) -> Result<(), Fail> {
+    match text {
+        Some(text) => scanner.push(alloc, Some(&name(alloc, text)?))?,
+        None => scanner.push(alloc, None)?,
+    }
+    Ok(())
+}
+
 /// A place, and a character behind it.
 fn anchored(alloc: Global, place: Position, c: char) -> Result<Pattern, Fail> {
     let mut parts = Vec::new(alloc);
@@ -77,7 +86,20 @@ fn shown(alloc: Global, winner: &Option<(u32, Caps)>, cost: u64) -> Result<Strin
     format!(in alloc; "{text}; {cost}")
 }
 
-/// What a scan gives, or that the budget ran out.
+/// What a scan gave, or that the budget ran out.
+fn told(
+    alloc: Global,
+    given: Result<Option<(u32, Caps)>, FindFault>,
+    cost: u64,
+) -> Result<String, Fail> {
+    match given {
+        Ok(winner) => Ok(shown(alloc, &winner, cost)?),
+        Err(FindFault::Budget) => Ok(format!(in alloc; "Budget")?),
+        Err(FindFault::OutOfMemory) => Err(Fail::from("no memory")),
+    }
+}
+
+/// What a scan of all patterns gives.
 fn scanned(
     alloc: Global,
     scanner: &Scanner,
@@ -90,11 +112,23 @@ fn scanned(
     let allow_a = flags.contains('a');
     let allow_g = flags.contains('g');
     let mut budget = given;
-    match scanner.next(alloc, &line, from, allow_a, allow_g, &mut budget) {
-        Ok(winner) => Ok(shown(alloc, &winner, given - budget)?),
-        Err(FindFault::Budget) => Ok(format!(in alloc; "Budget")?),
-        Err(FindFault::OutOfMemory) => Err(Fail::from("no memory")),
-    }
+    let found = scanner.next(alloc, &line, from, allow_a, allow_g, &mut budget);
+    told(alloc, found, given - budget)
+}
+
+/// What a scan of the patterns of these numbers gives.
+fn scanned_among(
+    alloc: Global,
+    scanner: &Scanner,
+    numbers: &[u32],
+    text: &str,
+    from: u32,
+    given: u64,
+) -> Result<String, Fail> {
+    let line = line(alloc, text)?;
+    let mut budget = given;
+    let found = scanner.next_among(alloc, numbers, &line, from, true, true, &mut budget);
+    told(alloc, found, given - budget)
 }
 
 #[test]
@@ -133,6 +167,49 @@ fn an_unreadable_pattern_keeps_its_place(rt: HostRuntime) -> Result<(), Fail> {
         if number < scanner.len() {
             assert_eq!(rt; scanner.readable(number), wanted, "pattern {number}");
         }
+    }
+    Ok(())
+}
+
+/// A place among the numbers is told, the first on a tie; no pattern but theirs is searched.
+#[test]
+fn the_earliest_among_numbers_wins(rt: HostRuntime) -> Result<(), Fail> {
+    let alloc = rt.alloc();
+    let scanner = scanner(alloc, &AMONG_PATTERNS)?;
+    for (numbers, text, from, budget, wanted) in AMONG.iter() {
+        let given = scanned_among(alloc, &scanner, numbers, text, *from, *budget)?;
+        assert_eq!(rt;
+            given.as_str(),
+            *wanted,
+            "{numbers:?} in {text} from {from} with {budget}"
+        );
+    }
+    Ok(())
+}
+
+/// A scanner that is used while it grows.
+#[test]
+fn patterns_are_added_behind(rt: HostRuntime) -> Result<(), Fail> {
+    let alloc = rt.alloc();
+    let mut scanner = Scanner::new(alloc);
+    assert_eq!(rt;
+        scanned(alloc, &scanner, "ab", 0, "ag", 9)?.as_str(),
+        "none; 0"
+    );
+    let texts = [
+        (Some("b"), true, "0: 1..2; 3"),
+        (None, false, "0: 1..2; 3"),
+        (Some("("), false, "0: 1..2; 3"),
+        (Some("a"), true, "3: 0..1; 5"),
+    ];
+    for (text, readable, wanted) in texts {
+        let number = scanner.len();
+        add(alloc, &mut scanner, text)?;
+        if number < scanner.len() {
+            assert_eq!(rt; scanner.readable(number), readable, "pattern {number}");
+        }
+        let given = scanned(alloc, &scanner, "ab", 0, "ag", 9)?;
+        assert_eq!(rt; given.as_str(), wanted, "with pattern {number}");
     }
     Ok(())
 }

@@ -133,6 +133,13 @@ fn words_of(alloc: Global, text: &[char]) -> Result<Vec<Name>, OutOfMemory>
     Ok(words)
 }
 
+/// The names of a text that is no template: its runs of characters other than the space.
+pub fn words(alloc: Global, text: &Name) -> Result<ScopePath, OutOfMemory>
+    ensures { IfOk result (λ path. path ≡ words_of text.now) }
+{
+    Ok(ScopePath::new(words_of(alloc, text.as_slice())?))
+}
+
 /// The names that a template pushes for a match on a line, by the rules of vscode-textmate and of the
 /// TextMate 1.x manual: `$` with as many digits as follow, and `${1:/downcase}` and `${1:/upcase}`,
 /// stand for what a group captured, without the dots at its front and in that case of ASCII letters.

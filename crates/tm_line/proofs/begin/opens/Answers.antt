@@ -1,5 +1,4 @@
 use Rattle.std.proofs.Common.{◌==◌, Some, ap, ◌∙◌}
-use Rattle.std.specs.Option.{option_to_list}
 use Rattle.std.proofs.lemmas.Option.{slice_get_within}
 use Rattle.tm_defs.proofs.Chains.{grows-left, full-first}
 use Rattle.tm_line.proofs.Opens.{opened-frames, opened-grows, opened-full}
@@ -16,26 +15,26 @@ push_frame-requires-clause-contents g c = slice_get_within _ _ _ c.in-Ok.ensures
 
 pub returns-in_default-clause-grows : goal.returns-in_default-clause-grows
 returns-in_default-clause-grows g c =
-    opened-grows (g.S.States.tables c.args.table.now) (g.S.States.tables c.named_list.new.table) c.args.state c.args.path c.in-Ok.inside c.args.rule (option_to_list c.args.content_name.now) (c.args.found.end == c.args.len)
+    opened-grows (g.S.States.tables c.args.table.now) (g.S.States.tables c.named_list.new.table) c.args.state c.args.path c.in-Ok.inside c.args.rule c.args.given.now.end c.args.given.now.content_names (c.args.end == c.args.len)
     c.requires.state c.requires.path c.in-Ok.ensures.grows c.in-Ok.ensures.ok (g.S.States.tables c.push_frame.new.table) c.in-Ok-push_frame.ensures.grows
 
 pub returns-in-Ok-enters-clause-ok : goal.returns-in-Ok-enters-clause-ok
 returns-in-Ok-enters-clause-ok g c =
     c.in-Ok-push_frame.ensures.ok
-    ∙ ap Some (opened-frames (g.S.States.tables c.args.table.now) (g.S.States.tables c.named_list.new.table) c.args.state c.args.path c.in-Ok.inside c.args.rule (option_to_list c.args.content_name.now) (c.args.found.end == c.args.len)
+    ∙ ap Some (opened-frames (g.S.States.tables c.args.table.now) (g.S.States.tables c.named_list.new.table) c.args.state c.args.path c.in-Ok.inside c.args.rule c.args.given.now.end c.args.given.now.content_names (c.args.end == c.args.len)
     c.requires.state c.requires.path c.in-Ok.ensures.grows c.in-Ok.ensures.ok)
 
 pub returns-in-Ok-enters-clause-grows : goal.returns-in-Ok-enters-clause-grows
 returns-in-Ok-enters-clause-grows g c =
-    opened-grows (g.S.States.tables c.args.table.now) (g.S.States.tables c.named_list.new.table) c.args.state c.args.path c.in-Ok.inside c.args.rule (option_to_list c.args.content_name.now) (c.args.found.end == c.args.len)
+    opened-grows (g.S.States.tables c.args.table.now) (g.S.States.tables c.named_list.new.table) c.args.state c.args.path c.in-Ok.inside c.args.rule c.args.given.now.end c.args.given.now.content_names (c.args.end == c.args.len)
     c.requires.state c.requires.path c.in-Ok.ensures.grows c.in-Ok.ensures.ok (g.S.States.tables c.push_frame.new.table) c.in-Ok-push_frame.ensures.grows
 
 pub returns-in-Err-push_frame-clause-grows : goal.returns-in-Err-push_frame-clause-grows
 returns-in-Err-push_frame-clause-grows g c =
-    opened-grows (g.S.States.tables c.args.table.now) (g.S.States.tables c.named_list.new.table) c.args.state c.args.path c.in-Ok.inside c.args.rule (option_to_list c.args.content_name.now) (c.args.found.end == c.args.len)
+    opened-grows (g.S.States.tables c.args.table.now) (g.S.States.tables c.named_list.new.table) c.args.state c.args.path c.in-Ok.inside c.args.rule c.args.given.now.end c.args.given.now.content_names (c.args.end == c.args.len)
     c.requires.state c.requires.path c.in-Ok.ensures.grows c.in-Ok.ensures.ok (g.S.States.tables c.push_frame.new.table) c.in-Err-push_frame.ensures.grows
 
 pub returns-in-Err-push_frame-clause-full : goal.returns-in-Err-push_frame-clause-full
 returns-in-Err-push_frame-clause-full g c =
-    opened-full (g.S.States.tables c.args.table.now) (g.S.States.tables c.named_list.new.table) c.args.state c.args.path c.in-Ok.inside c.args.rule (option_to_list c.args.content_name.now) (c.args.found.end == c.args.len)
+    opened-full (g.S.States.tables c.args.table.now) (g.S.States.tables c.named_list.new.table) c.args.state c.args.path c.in-Ok.inside c.args.rule c.args.given.now.end c.args.given.now.content_names (c.args.end == c.args.len)
     c.requires.state c.requires.path c.in-Ok.ensures.grows c.in-Ok.ensures.ok (g.S.States.tables c.push_frame.new.table) c.in-Err-push_frame.fault c.in-Err-push_frame.ensures.full

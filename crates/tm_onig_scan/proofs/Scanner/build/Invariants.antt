@@ -1,7 +1,7 @@
-use Rattle.std.proofs.Common.{◌≡◌, length, map, take}
+use Rattle.std.proofs.Common.{◌≡◌, map, take}
 use Rattle.tm_onig_parse.specs.Reading.{parsed}
 use Rattle.tm_onig_scan.specs.Winner.{trees_of}
 use Rattle.tm_onig_scan.proofs.Scanner.build.Given as goal
 
 abbrev pub invariant-loop-text : goal.invariant-loop-text
-invariant-loop-text l = (trees_of l.programs.items ≡ map parsed (take l.text-index l.patterns)) × (length l.programs.items ≡ l.text-index)
+invariant-loop-text l = trees_of l.scanner ≡ map parsed (take l.text-index l.patterns)

@@ -1,0 +1,115 @@
+-- A reading stops at a file.
+use Rattle.std.proofs.Common.{◌≡◌, ℕ, List, [], ◌∷◌, ◌++◌, Option, Some, None, Ok as Good, refl, ap, sym, ◌∙◌, append_assoc, subst}
+use Rattle.tm_app.specs.declared.status.What.TheVariants.{NotJson, BadShape, NotYet, TooManyRules, BadPlace}
+use Rattle.tm_app.specs.declared.status.Status.{Status}
+use Rattle.tm_app.specs.declared.status.Status.TheVariants.{Ok, Usage, FileFault, Refused, SinkFault, OutOfMemory, BudgetSeen, TableFull}
+use Rattle.tm_app.specs.Told.{Told, where_told, what_of, HasGrown, HasAdded, IsFileStop, IsBuildStop}
+use Rattle.tm_forms.specs.declared.form.Refusal.{Refusal}
+use Rattle.tm_forms.specs.declared.form.Refusal.TheVariants as refusal
+use Rattle.tm_forms.specs.declared.script.Scripted.{Scripted}
+use Rattle.tm_forms.specs.Settings.{SettingsData}
+use Rattle.tm_app.specs.Command.{Names, Command, Lint, Run}
+use Rattle.tm_app.specs.Given.{IsGrammarReached, IsTooMany}
+use Rattle.tm_app.specs.Reading.{Part, the_settings, the_grammar, the_text, the_script, Refuses, text_form, IsGrammarPart, IsReadStop, IsReached, HasManyRules, GivesSettings, HasSettings, IsLoadStop, IsScriptStop}
+
+pub not-many : (cause : Refusal) → TooManyRules ≡ what_of cause → ⊥
+not-many refusal.NotJson e = cc
+not-many (refusal.BadShape path) e = cc
+not-many refusal.NotYet e = cc
+
+pub not-place : (line : ℕ) (cause : Refusal) → BadPlace line ≡ what_of cause → ⊥
+not-place line refusal.NotJson e = cc
+not-place line (refusal.BadShape path) e = cc
+not-place line refusal.NotYet e = cc
+
+pub told-as : (a b : Option (List ℕ)) (P : List ℕ → Type 0) → a ≡ b → Told a P → Told b P
+told-as a b P e h = let Q : Option (List ℕ) → Type 0 = λ o. Told o P in subst Q e h
+
+pub grown-none : (a : List (List ℕ)) → HasGrown a a
+grown-none a = ([], cc)
+
+pub grown-trans : (a b c : List (List ℕ)) → HasGrown a b → HasGrown b c → HasGrown a c
+grown-trans a b c h k = (h.0 ++ k.0, k.1 ∙ ap (λ l. l ++ k.0) h.1 ∙ append_assoc a h.0 k.0)
+
+added-after : (a b c : List (List ℕ)) (name : List ℕ) → HasGrown a b → HasAdded b c name → HasAdded a c name
+added-after a b c name h k = (h.0 ++ k.0, k.1 ∙ ap (λ l. (l ++ k.0) ++ name ∷ []) h.1 ∙ ap (λ l. l ++ name ∷ []) (append_assoc a h.0 k.0))
+
+-- one file stops a reading that comes to it
+pub file-stop : (tells : List ℕ → Option (List ℕ)) (reached : Part → List ℕ → Type 0) (many : List ℕ → Type 0) (part : Part) (file : List ℕ) (old mid new : List (List ℕ)) (ended : Status) → reached part file → HasGrown old mid →
+    IsFileStop (λ cause. Told (tells file) (λ bytes. Refuses part bytes cause)) mid new file ended → IsReadStop tells reached many old new ended
+file-stop tells reached many part file old mid new (FileFault name) here grown stop = (part, file, stop.0, here, (grown.0, stop.1 ∙ ap (λ l. l ++ file ∷ []) grown.1))
+file-stop tells reached many part file old mid new (Refused name NotJson) here grown stop = (part, file, stop.0, here, stop.1)
+file-stop tells reached many part file old mid new (Refused name (BadShape path)) here grown stop = (part, file, stop.0, here, stop.1)
+file-stop tells reached many part file old mid new (Refused name NotYet) here grown stop = (part, file, stop.0, here, stop.1)
+file-stop tells reached many part file old mid new (Refused name TooManyRules) here grown stop = absurd (not-many stop.1.0 stop.1.1)
+file-stop tells reached many part file old mid new (Refused name (BadPlace line)) here grown stop = (part, file, stop.0, here, stop.1)
+file-stop tells reached many part file old mid new OutOfMemory here grown stop = tt
+file-stop tells reached many part file old mid new Ok here grown stop = stop
+file-stop tells reached many part file old mid new Usage here grown stop = stop
+file-stop tells reached many part file old mid new SinkFault here grown stop = stop
+file-stop tells reached many part file old mid new BudgetSeen here grown stop = stop
+file-stop tells reached many part file old mid new TableFull here grown stop = stop
+
+-- what stops a part of a reading stops the whole
+pub read-within : (tells : List ℕ → Option (List ℕ)) (r s : Part → List ℕ → Type 0) (m n : List ℕ → Type 0) (old mid new : List (List ℕ)) (ended : Status) →
+    ((part : Part) (file : List ℕ) → r part file → s part file) → ((file : List ℕ) → m file → n file) → HasGrown old mid → IsReadStop tells r m mid new ended → IsReadStop tells s n old new ended
+read-within tells r s m n old mid new (FileFault name) f g grown stop = (stop.0, stop.1, stop.2, f stop.0 stop.1 stop.3, added-after old mid new stop.1 grown stop.4)
+read-within tells r s m n old mid new (Refused name NotJson) f g grown stop = (stop.0, stop.1, stop.2, f stop.0 stop.1 stop.3, stop.4)
+read-within tells r s m n old mid new (Refused name (BadShape path)) f g grown stop = (stop.0, stop.1, stop.2, f stop.0 stop.1 stop.3, stop.4)
+read-within tells r s m n old mid new (Refused name NotYet) f g grown stop = (stop.0, stop.1, stop.2, f stop.0 stop.1 stop.3, stop.4)
+read-within tells r s m n old mid new (Refused name TooManyRules) f g grown stop = (stop.0, stop.1, g stop.0 stop.2)
+read-within tells r s m n old mid new (Refused name (BadPlace line)) f g grown stop = (stop.0, stop.1, stop.2, f stop.0 stop.1 stop.3, stop.4)
+read-within tells r s m n old mid new OutOfMemory f g grown stop = tt
+read-within tells r s m n old mid new Ok f g grown stop = stop
+read-within tells r s m n old mid new Usage f g grown stop = stop
+read-within tells r s m n old mid new SinkFault f g grown stop = stop
+read-within tells r s m n old mid new BudgetSeen f g grown stop = stop
+read-within tells r s m n old mid new TableFull f g grown stop = stop
+
+-- grammars of too many rules stop a reading
+pub build-stop : (tells : List ℕ → Option (List ℕ)) (reached : Part → List ℕ → Type 0) (many : List ℕ → Type 0) (too_many : Type 0) (file : List ℕ) (old new : List (List ℕ)) (ended : Status) → (too_many → many file) → IsBuildStop too_many file ended → IsReadStop tells reached many old new ended
+build-stop tells reached many too_many file old new (Refused name TooManyRules) f stop = (file, stop.0, f stop.2)
+build-stop tells reached many too_many file old new (Refused name NotJson) f stop = absurd cc
+build-stop tells reached many too_many file old new (Refused name (BadShape path)) f stop = absurd cc
+build-stop tells reached many too_many file old new (Refused name NotYet) f stop = absurd cc
+build-stop tells reached many too_many file old new (Refused name (BadPlace line)) f stop = absurd cc
+build-stop tells reached many too_many file old new OutOfMemory f stop = tt
+build-stop tells reached many too_many file old new Ok f stop = stop
+build-stop tells reached many too_many file old new Usage f stop = stop
+build-stop tells reached many too_many file old new (FileFault name) f stop = absurd stop
+build-stop tells reached many too_many file old new SinkFault f stop = stop
+build-stop tells reached many too_many file old new BudgetSeen f stop = stop
+build-stop tells reached many too_many file old new TableFull f stop = stop
+
+pub grammar-within : (r s : List ℕ → Type 0) → ((file : List ℕ) → r file → s file) → (part : Part) (file : List ℕ) → IsGrammarPart r part file → IsGrammarPart s part file
+grammar-within r s f the_settings file h = h
+grammar-within r s f the_grammar file h = f file h
+grammar-within r s f the_text file h = h
+grammar-within r s f the_script file h = h
+
+-- a command's reading comes to the grammar files of its settings
+pub grammar-reached : (command : Command) (tells : List ℕ → Option (List ℕ)) (says : SettingsData) → GivesSettings command tells says → (part : Part) (file : List ℕ) → IsGrammarPart (IsGrammarReached (where_told tells) says.settings) part file → IsReached command tells part file
+grammar-reached command tells says given the_settings file h = absurd h
+grammar-reached command tells says given the_grammar file h = (says, given, h)
+grammar-reached command tells says given the_text file h = absurd h
+grammar-reached command tells says given the_script file h = absurd h
+
+-- a run over a text reads what `lint` reads, and more
+pub lint-reached : (names : Names) (tells : List ℕ → Option (List ℕ)) (part : Part) (file : List ℕ) → IsReached (Lint names.settings) tells part file → IsReached (Run names) tells part file
+lint-reached names tells the_settings file h = h
+lint-reached names tells the_grammar file h = h
+lint-reached names tells the_text file h = absurd h
+lint-reached names tells the_script file h = absurd h
+
+pub settings-stop : (names : Names) (tells : List ℕ → Option (List ℕ)) (old new : List (List ℕ)) (ended : Status) → IsLoadStop (Lint names.settings) tells old new ended → IsLoadStop (Run names) tells old new ended
+settings-stop names tells old new ended stop =
+    read-within tells (IsReached (Lint names.settings) tells) (IsReached (Run names) tells) (HasManyRules (Lint names.settings) tells) (HasManyRules (Run names) tells) old old new ended (lint-reached names tells) (λ file h. h) (grown-none old) stop
+
+-- the script ends the reading, and a scan only for want of memory
+pub script-stop : (names : Names) (tells : List ℕ → Option (List ℕ)) (old mid new : List (List ℕ)) (ended : Status) → HasSettings (Run names) tells → ((text : List ℕ) × Told (tells names.text) (λ bytes. text_form bytes ≡ Good text)) → HasGrown old mid →
+    IsScriptStop tells mid new names.script ended → IsLoadStop (Run names) tells old new ended
+script-stop names tells old mid new ended settings text grown stop = go names.script refl stop
+  where
+    go : (script : Option (List ℕ)) → script ≡ names.script → IsScriptStop tells mid new script ended → IsLoadStop (Run names) tells old new ended
+    go None is h = let P : Status → Type 0 = λ s. IsLoadStop (Run names) tells old new s in subst P (sym h) tt
+    go (Some file) is h = file-stop tells (IsReached (Run names) tells) (HasManyRules (Run names) tells) the_script file old mid new ended (is, settings, text) grown h
