@@ -21,14 +21,20 @@ use Rattle.tm_app.specs.Outcome.{Outcome, WorkDone, WorkStops, IsDone}
 use Rattle.tm_app.specs.Complete.{IsGood, Completes}
 use Rattle.tm_app.proofs.Commands.{one-command}
 
+one-ok : {X : Type 0} (r : Result X Refusal) (x y : X) → r ≡ Good x → r ≡ Good y → x ≡ y
+one-ok r x y a b = cc
+
+ok-no-err : {X : Type 0} (r : Result X Refusal) (x : X) (cause : Refusal) → r ≡ Good x → r ≡ Err cause → ⊥
+ok-no-err r x cause a b = cc
+
 -- what a told file says is one thing
 one-saying : {X : Type 0} (told : Option (List ℕ)) (form : List ℕ → Result X Refusal) (x y : X) → IsTold told (λ bytes. form bytes ≡ Good x) → Told told (λ bytes. form bytes ≡ Good y) → x ≡ y
 one-saying None form x y s h = absurd s
-one-saying (Some bytes) form x y s h = let e : Good {E = Refusal} x ≡ Good y = sym s ∙ h in cc
+one-saying (Some bytes) form x y s h = one-ok (form bytes) x y s h
 
 not-refused : {X : Type 0} (told : Option (List ℕ)) (form : List ℕ → Result X Refusal) (x : X) (cause : Refusal) → IsTold told (λ bytes. form bytes ≡ Good x) → Told told (λ bytes. form bytes ≡ Err cause) → ⊥
 not-refused None form x cause s h = s
-not-refused (Some bytes) form x cause s h = let e : Good x ≡ Err cause = sym s ∙ h in cc
+not-refused (Some bytes) form x cause s h = ok-no-err (form bytes) x cause s h
 
 abbrev mk-setup : ℕ → List Setting → List ℕ → List Scripted → SetupData
 mk-setup b g t s = record { budget = b; settings = g; text = t; script = s }

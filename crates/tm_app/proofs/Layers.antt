@@ -1,21 +1,21 @@
 -- Readings within readings: what a part gives, and what stops it, where files are told the same as at first.
 use mathlib.Core.Path.{fun_ext}
-use Rattle.std.proofs.Common.{◌≡◌, ℕ, ◌+◌, ◌<◌, ◌≤◌, List, [], ◌∷◌, ◌++◌, length, map, take, get_or, Option, Ok as Good, Err, refl, ap, sym, ◌∙◌, subst, arith, string_bytes, String, length-map}
-use Rattle.std.proofs.lemmas.List.{get_or-map}
+use Rattle.std.proofs.Common.{◌≡◌, ℕ, ◌+◌, ◌<◌, ◌≤◌, List, [], ◌∷◌, ◌++◌, length, map, take, get_or, Option, Ok as Good, Err, refl, ap, sym, ◌∙◌, subst, arith, string_bytes, String, Result, IfOk}
+use Rattle.std.proofs.lemmas.List.{get_or-map, length-map}
 use Rattle.std.specs.declared.alloc.Global.{Global}
 use Rattle.tm_forms.specs.Grammar.{grammar_in}
 use Rattle.tm_forms.specs.Settings.{SettingFilesData, SettingsData, settings_in}
+use Rattle.tm_forms.specs.declared.script.Scripted.{Scripted}
 use Rattle.tm_grammar.specs.File.{GrammarTree}
 use Rattle.tm_line.specs.Setting.{Setting}
 use Rattle.tm_rules.specs.Sizes.{rule_limit}
 use Rattle.tm_app.specs.declared.status.Status.{Status}
 use Rattle.tm_app.specs.Command.{Names, Lint, Run}
 use Rattle.tm_app.specs.Given.{rules_in, setting_in, grammar_files, AllGiven, IsSettingGiven, AreGiven, AreLoaded, IsFileReached, IsSettingReached, IsGrammarReached, HasTooMany, IsTooMany}
-use Rattle.tm_app.specs.Reading.{the_grammar, text_form, no_file, IsGrammarPart, IsReadStop, IsReached, HasManyRules, IsLoadStop, HasSettings, GivesScript, IsSetupLoaded}
-use Rattle.tm_app.specs.Setup.{SetupData}
+use Rattle.tm_app.specs.Reading.{the_grammar, the_text, text_form, no_file, IsGrammarPart, IsReadStop, IsReached, HasManyRules, IsLoadStop, IsScriptStop, GivesScript}
 use Rattle.tm_app.specs.Told.{Told, where_told, HasGrown, IsFileStop, IsBuildStop}
 use Rattle.tm_app.proofs.Givens.{all-given-next, are-given-next, file-next, setting-next, file-first, file-later, given-many}
-use Rattle.tm_app.proofs.Reads.{told-as, grown-none, file-stop, read-within, build-stop, grammar-within, grammar-reached}
+use Rattle.tm_app.proofs.ReadStops.{told-as, grown-none, file-stop, read-within, build-stop, grammar-within, grammar-reached, script-stop}
 use Rattle.tm_app.proofs.SettingsSome.{settings-some}
 
 -- why the grammar files of a setting, or of settings, stop a reading
@@ -110,6 +110,25 @@ module _ (tells now : List ℕ → Option (List ℕ)) (same : (file : List ℕ) 
       read-within tells (IsGrammarPart (IsGrammarReached (where_told tells) says.settings)) (IsReached (Lint name) tells) (IsTooMany (where_told tells) says.settings) (HasManyRules (Lint name) tells) old mid new ended
       (grammar-reached (Lint name) tells says told) (λ file h. (says, told, h)) grown (subst Q are (subst P (fun_ext same) stop))
 
+  -- text and script behind the settings
+  pub text-stop : (names : Names) (budget : ℕ) (settings : List Setting) (old mid new : List (List ℕ)) (ended : Status) → AreLoaded (where_told tells) names.settings budget settings → HasGrown old mid →
+      IsFileStop (λ cause. Told (now names.text) (λ bytes. text_form bytes ≡ Err cause)) mid new names.text ended → IsLoadStop (Run names) tells old new ended
+  text-stop names budget settings old mid new ended loaded grown stop =
+      let P : Option (List ℕ) → Type 0 = λ t. IsFileStop (λ cause. Told t (λ bytes. text_form bytes ≡ Err cause)) mid new names.text ended in
+      file-stop tells (IsReached (Run names) tells) (HasManyRules (Run names) tells) the_text names.text old mid new ended (refl, (budget, settings, loaded)) grown (subst P (same names.text) stop)
+
+  pub text-given : (names : Names) (text : List ℕ) → Told (now names.text) (λ bytes. text_form bytes ≡ Good text) → Told (tells names.text) (λ bytes. text_form bytes ≡ Good text)
+  text-given names text told = told-as (now names.text) (tells names.text) (λ bytes. text_form bytes ≡ Good text) (same names.text) told
+
+  pub script-stops : (names : Names) (budget : ℕ) (settings : List Setting) (text : List ℕ) (old mid new : List (List ℕ)) (ended : Status) → AreLoaded (where_told tells) names.settings budget settings → Told (tells names.text) (λ bytes. text_form bytes ≡ Good text) → HasGrown old mid →
+      IsScriptStop now mid new names.script ended → IsLoadStop (Run names) tells old new ended
+  script-stops names budget settings text old mid new ended loaded told grown stop =
+      let P : (List ℕ → Option (List ℕ)) → Type 0 = λ t. IsScriptStop t mid new names.script ended in
+      script-stop names tells old mid new ended (budget, settings, loaded) (text, told) grown (subst P (fun_ext same) stop)
+
+  pub script-given : (script : Option (List ℕ)) (steps : List Scripted) → GivesScript (where_told now) script steps → GivesScript (where_told tells) script steps
+  script-given script steps h = let P : (List ℕ → Option (List ℕ)) → Type 0 = λ t. GivesScript (where_told t) script steps in subst P (fun_ext same) h
+
 -- the grammar of a setting
 pub root-stop : (tells : List ℕ → Option (List ℕ)) (files : SettingFilesData) (file : List ℕ) (old new : List (List ℕ)) (ended : Status) → file ≡ files.grammar → GrammarStop (tells file) old new file ended → SettingStop tells files old new ended
 root-stop tells files file old new ended is stop =
@@ -119,3 +138,8 @@ root-stop tells files file old new ended is stop =
 -- a settings file that is read has a setting
 pub loaded-some : (holds : List ℕ → (List ℕ → Type 0) → Type 0) (bytes : List ℕ) (says : SettingsData) (list : List SettingFilesData) (settings : List Setting) → settings_in bytes ≡ Good says → list ≡ says.settings → AreGiven holds list settings → 0 < length settings
 loaded-some holds bytes says list settings formed are given = omega (arith, settings-some bytes says formed, ap length are, given-many holds list settings given)
+
+-- two facts of a result
+pub both_ok : {T E : Type 0} (r : Result T E) (P Q R : T → Type 0) → ((x : T) → P x → Q x → R x) → IfOk r P → IfOk r Q → IfOk r R
+both_ok (Good x) P Q R f h k = f x h k
+both_ok (Err e) P Q R f h k = tt

@@ -7,7 +7,7 @@ pub mod Layers
 pub mod LintLines
 pub mod Outcomes
 pub mod PlayRuns
-pub mod Reads
+pub mod ReadStops
 pub mod SettingsSome
 pub mod ShownLines
 pub mod StandSteps

@@ -22,7 +22,7 @@ use Rattle.tm_machine.specs.Machine.{machine_of}
 use Rattle.tm_machine.specs.Changes.{lines_of}
 use Rattle.tm_app.specs.Outcome.{Outcome, StopsLoad, StopsWork, SetupStops, WorkDone, WorkStops, IsDone, any_command, grammar_rules, IsBadPlace}
 use Rattle.tm_app.proofs.PlayRuns.{some-now, all-now}
-use Rattle.tm_app.proofs.Reads.{not-place}
+use Rattle.tm_app.proofs.ReadStops.{not-place}
 
 -- work that is done or stops may be cut off by want of memory there
 done-memory : (work : Work) (a b : Option (List ℕ)) (seen : Bool) (f g : ℕ) → WorkDone work a b seen → WorkStops work a b f g fault.OutOfMemory

@@ -1,8 +1,7 @@
-use Rattle.std.proofs.Common.{◌∙◌, ap, map, arith, [], ◌∷◌}
+use Rattle.std.proofs.Common.{◌∙◌, ap, map, arith}
 use Rattle.std.specs.Arc.{arc_value}
 use Rattle.std.proofs.lemmas.List.{length-map}
 use Rattle.tm_machine.specs.Changes.{lines_of}
-use Rattle.tm_line.specs.Setting.{setting_data}
 use Rattle.tm_app.specs.Setup.{setup_data}
 use Rattle.tm_app.proofs.GrammarRuns.{setup-play, setup-stop}
 use Rattle.tm_app.proofs.PlayRuns.{if_ok, if_err}
@@ -23,9 +22,9 @@ pub counted-requires-clause-short : goal.counted-requires-clause-short
 counted-requires-clause-short g c = lines-short (map arc_value c.in-Ok.lines.items) c.as_slice.result.now c.in-Ok.ensures c.as_slice.ensures.short
 
 pub returns-clause-ok : goal.returns-clause-ok
-returns-clause-ok g c = if_ok c.counted.result _ _ (λ seen done. setup-play (setup_data c.args.setup) (setting_data c.in-Ok-into_setting.setting ∷ []) (map arc_value c.in-Ok.lines.items) c.as_slice-2.result.now _ _ seen
-    (ap (λ s. s ∷ []) c.in-Ok-into_setting.ensures) (c.in-Ok.ensures ∙ ap lines_of c.as_slice.ensures.value) c.as_slice-2.ensures.value done) c.counted.ensures.ok
+returns-clause-ok g c = if_ok c.counted.result _ _ (λ seen done. setup-play (setup_data c.args.setup) c.as_slice-2.result.now (map arc_value c.in-Ok.lines.items) c.as_slice-3.result.now _ _ seen
+    c.as_slice-2.ensures.value (c.in-Ok.ensures ∙ ap lines_of c.as_slice.ensures.value) c.as_slice-3.ensures.value done) c.counted.ensures.ok
 
 pub returns-clause-err : goal.returns-clause-err
-returns-clause-err g c = if_err c.counted.result _ _ (λ fault stopped. setup-stop (setup_data c.args.setup) (setting_data c.in-Ok-into_setting.setting ∷ []) (map arc_value c.in-Ok.lines.items) c.as_slice-2.result.now _ _ _ _ fault
-    (ap (λ s. s ∷ []) c.in-Ok-into_setting.ensures) (c.in-Ok.ensures ∙ ap lines_of c.as_slice.ensures.value) c.as_slice-2.ensures.value stopped) c.counted.ensures.err
+returns-clause-err g c = if_err c.counted.result _ _ (λ fault stopped. setup-stop (setup_data c.args.setup) c.as_slice-2.result.now (map arc_value c.in-Ok.lines.items) c.as_slice-3.result.now _ _ _ _ fault
+    c.as_slice-2.ensures.value (c.in-Ok.ensures ∙ ap lines_of c.as_slice.ensures.value) c.as_slice-3.ensures.value stopped) c.counted.ensures.err

@@ -1,5 +1,6 @@
 -- A reading stops at a file.
 use Rattle.std.proofs.Common.{◌≡◌, ℕ, List, [], ◌∷◌, ◌++◌, Option, Some, None, Ok as Good, refl, ap, sym, ◌∙◌, append_assoc, subst}
+use Rattle.std.proofs.lemmas.List.{append-nil}
 use Rattle.tm_app.specs.declared.status.What.TheVariants.{NotJson, BadShape, NotYet, TooManyRules, BadPlace}
 use Rattle.tm_app.specs.declared.status.Status.{Status}
 use Rattle.tm_app.specs.declared.status.Status.TheVariants.{Ok, Usage, FileFault, Refused, SinkFault, OutOfMemory, BudgetSeen, TableFull}
@@ -26,7 +27,7 @@ pub told-as : (a b : Option (List ℕ)) (P : List ℕ → Type 0) → a ≡ b �
 told-as a b P e h = let Q : Option (List ℕ) → Type 0 = λ o. Told o P in subst Q e h
 
 pub grown-none : (a : List (List ℕ)) → HasGrown a a
-grown-none a = ([], cc)
+grown-none a = ([], sym (append-nil a))
 
 pub grown-trans : (a b c : List (List ℕ)) → HasGrown a b → HasGrown b c → HasGrown a c
 grown-trans a b c h k = (h.0 ++ k.0, k.1 ∙ ap (λ l. l ++ k.0) h.1 ∙ append_assoc a h.0 k.0)
@@ -69,10 +70,10 @@ read-within tells r s m n old mid new TableFull f g grown stop = stop
 -- grammars of too many rules stop a reading
 pub build-stop : (tells : List ℕ → Option (List ℕ)) (reached : Part → List ℕ → Type 0) (many : List ℕ → Type 0) (too_many : Type 0) (file : List ℕ) (old new : List (List ℕ)) (ended : Status) → (too_many → many file) → IsBuildStop too_many file ended → IsReadStop tells reached many old new ended
 build-stop tells reached many too_many file old new (Refused name TooManyRules) f stop = (file, stop.0, f stop.2)
-build-stop tells reached many too_many file old new (Refused name NotJson) f stop = absurd cc
-build-stop tells reached many too_many file old new (Refused name (BadShape path)) f stop = absurd cc
-build-stop tells reached many too_many file old new (Refused name NotYet) f stop = absurd cc
-build-stop tells reached many too_many file old new (Refused name (BadPlace line)) f stop = absurd cc
+build-stop tells reached many too_many file old new (Refused name NotJson) f stop = let e : NotJson ≡ TooManyRules = stop.1 in absurd cc
+build-stop tells reached many too_many file old new (Refused name (BadShape path)) f stop = let e : BadShape path ≡ TooManyRules = stop.1 in absurd cc
+build-stop tells reached many too_many file old new (Refused name NotYet) f stop = let e : NotYet ≡ TooManyRules = stop.1 in absurd cc
+build-stop tells reached many too_many file old new (Refused name (BadPlace line)) f stop = let e : BadPlace line ≡ TooManyRules = stop.1 in absurd cc
 build-stop tells reached many too_many file old new OutOfMemory f stop = tt
 build-stop tells reached many too_many file old new Ok f stop = stop
 build-stop tells reached many too_many file old new Usage f stop = stop
