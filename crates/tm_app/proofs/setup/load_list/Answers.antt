@@ -14,7 +14,7 @@ loop-named-preserved g c =
     let inv = c.loop-named.invariant in
     record {
       given = rw c.in-Ok-push.ensures.items (settings-next (g.F.Files.bytes c.args.files.now) (g.F.Files.bytes c.loop-named.files) inv.kept c.args.list.now c.loop-named.settings.items c.loop-named.named-index c.named-item.result c.in-Ok.setting
-      c.loop-named-test.true c.named-item.is inv.given c.in-Ok.ensures.ok);
+          c.loop-named-test.true c.named-item.is inv.given c.in-Ok.ensures.ok);
       grows = grown-trans _ _ _ inv.grows c.load_setting.ensures.grows;
       kept = λ other. c.load_setting.ensures.kept other ∙ inv.kept other;
     }
