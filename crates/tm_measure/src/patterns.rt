@@ -1,28 +1,29 @@
-//! Reads patterns from standard input, one a line, and prints how many are readable and how many are
-//! not: a program to measure the reader by.
-#![tactic(auto)]
+//! How many of the patterns given, one a line, are readable.
 
-use std::io;
+use anyhow::{Result, bail};
 use std::io::{BufRead, BufReader};
 use tm_defs::texts::Name;
 use tm_onig_parse::{ParseFault, parse};
 
-fn name_of(rt: &HostRuntime, text: &str) -> io::Result<Name> {
+/// The characters of a text.
+pub(crate) fn chars_of(rt: &HostRuntime, text: &str) -> Result<Vec<char>> {
     let mut chars = Vec::new(rt.alloc());
     for c in text.chars() {
         chars.push(c)?;
     }
-    Ok(Name::new(chars))
+    Ok(chars)
 }
 
-fn main(rt: HostRuntime) -> io::Result<()> {
+/// Prints how many patterns are readable, and how many are not.
+pub(crate) fn count(rt: &HostRuntime) -> Result<()> {
     let mut readable: u64 = 0;
     let mut unreadable: u64 = 0;
     for line in BufReader::new(rt.alloc(), rt.reader())?.lines(rt.alloc()) {
-        match parse(rt.alloc(), &name_of(&rt, line?.as_str())?) {
+        let name = Name::new(chars_of(rt, line?.as_str())?);
+        match parse(rt.alloc(), &name) {
             Ok(_) => readable = readable.saturating_add(1),
             Err(ParseFault::Unreadable) => unreadable = unreadable.saturating_add(1),
-            Err(ParseFault::OutOfMemory) => return Err(io::Error::from(io::ErrorKind::OutOfMemory)),
+            Err(ParseFault::OutOfMemory) => bail!("out of memory"),
         }
     }
     println!(rt; "readable {readable}")?;
