@@ -1,7 +1,6 @@
 -- What reading gives is what the grammar says, answer by answer.
 use Rattle.std.proofs.Common.{◌≡◌, ℕ, ◌≤◌, List, Some, Result, Ok, Err, IfOk, sym, ap, ◌∙◌, subst}
-use Rattle.tm_onig_class.specs.Tree.{Tree}
-use Rattle.tm_onig_class.specs.Widths.{least_width}
+use Rattle.tm_onig_class.specs.Tree.{Tree, IsOne}
 use Rattle.tm_onig_atom.specs.declared.options.Options.{Options}
 use Rattle.tm_onig_atom.specs.declared.fault.AtomFault.{AtomFault}
 use Rattle.tm_onig_atom.specs.Escapes.{Escape, BeginsEscape, escape_tree}
@@ -9,8 +8,8 @@ use Rattle.tm_onig_atom.specs.Reading.{escape_at}
 use Rattle.tm_onig_atom.specs.Classes.{Class, BeginsClass, class_height, class_tree}
 use Rattle.tm_onig_atom.specs.ClassReading.{class_at}
 use Rattle.tm_onig_atom.specs.Views.{Gives}
-use Rattle.tm_onig_atom.proofs.EscapeExact.{escape_again, escape_found, escape_width}
-use Rattle.tm_onig_atom.proofs.ClassExact.{class_again, class_found, class_width}
+use Rattle.tm_onig_atom.proofs.EscapeExact.{escape_again, escape_found, escape_one}
+use Rattle.tm_onig_atom.proofs.ClassExact.{class_again, class_found, class_one}
 
 -- what is read of an escape
 abbrev EscapeRead : Type 0
@@ -28,8 +27,8 @@ pub escape_answered : {X : Type 0} (view : X → EscapeRead) (r : Result X AtomF
 escape_answered view r o t g e rest b = subst (Gives view r) (ap (escape_at o) b.whole ∙ escape_again e o rest b.is) g
 
 -- an answer takes one character
-pub escape_wide : {X : Type 0} (view : X → EscapeRead) (r : Result X AtomFault) (o : Options) (t : List ℕ) → Gives view r (escape_at o t) → IfOk r (λ x. least_width (view x).0 ≡ 1)
-escape_wide view (Ok x) o t g = let f = escape_found o t (view x).0 (view x).1 g in ap least_width f.means ∙ escape_width o f.escape
+pub escape_wide : {X : Type 0} (view : X → EscapeRead) (r : Result X AtomFault) (o : Options) (t : List ℕ) → Gives view r (escape_at o t) → IfOk r (λ x. IsOne (view x).0)
+escape_wide view (Ok x) o t g = let f = escape_found o t (view x).0 (view x).1 g in subst IsOne (sym f.means) (escape_one o f.escape)
 escape_wide view (Err fault) o t g = tt
 
 -- what is read of a class
@@ -48,8 +47,8 @@ pub class_answered : {X : Type 0} (view : X → ClassRead) (r : Result X AtomFau
 class_answered view r depth o t g k rest b low = subst (Gives view r) (ap (class_at depth o) b.whole ∙ class_again k depth o rest b.is low) g
 
 -- an answer takes one character
-pub class_wide : {X : Type 0} (view : X → ClassRead) (r : Result X AtomFault) (depth : ℕ) (o : Options) (t : List ℕ) → Gives view r (class_at depth o t) → IfOk r (λ x. least_width (view x).0.0 ≡ 1)
-class_wide view (Ok x) depth o t g = let f = class_found depth o t (view x).0.0 (view x).0.1 (view x).1 g in ap least_width f.means ∙ class_width o f.class
+pub class_wide : {X : Type 0} (view : X → ClassRead) (r : Result X AtomFault) (depth : ℕ) (o : Options) (t : List ℕ) → Gives view r (class_at depth o t) → IfOk r (λ x. IsOne (view x).0.0)
+class_wide view (Ok x) depth o t g = let f = class_found depth o t (view x).0.0 (view x).0.1 (view x).1 g in subst IsOne (sym f.means) (class_one o f.class)
 class_wide view (Err fault) depth o t g = tt
 
 -- an answer is nested no deeper than is allowed

@@ -1,9 +1,8 @@
 -- A class is read exactly as it is spelled, and is nested no deeper than allowed.
-use Rattle.std.proofs.Common.{◌≡◌, ℕ, zero, suc, ◌+◌, ◌≤◌, Bool, true, false, not, ◌&&◌, List, [], ◌∷◌, ◌++◌, length, Option, Some, option_map, refl, sym, ap, ◌∙◌, subst, inl, inr, arith}
+use Rattle.std.proofs.Common.{◌≡◌, ℕ, zero, suc, ◌+◌, ◌≤◌, Bool, true, false, not, ◌&&◌, List, [], ◌∷◌, ◌++◌, length, Option, Some, option_map, sym, ap, ◌∙◌, subst, inl, inr, arith}
 use Rattle.std.specs.Prelude.{◌==◌}
 use Rattle.regex_class.specs.Ranges.{Range as CharRange}
-use Rattle.tm_onig_class.specs.Tree.{Tree, InSet}
-use Rattle.tm_onig_class.specs.Widths.{least_width}
+use Rattle.tm_onig_class.specs.Tree.{Tree, InSet, IsOne}
 use Rattle.tm_onig_atom.specs.declared.options.Options.{Options}
 use Rattle.tm_onig_atom.specs.declared.parts.Part.{Part}
 use Rattle.tm_onig_atom.specs.declared.parts.Part.TheVariants.{Adds, Meets, Inner}
@@ -94,6 +93,5 @@ class_found depth o t tree height rest e =
     }
 
 -- A class takes one character.
-pub class_width : (o : Options) (k : Class) → least_width (class_tree o k) ≡ 1
-unfolding least_width
-class_width o k = refl
+pub class_one : (o : Options) (k : Class) → IsOne (class_tree o k)
+class_one o k = tt

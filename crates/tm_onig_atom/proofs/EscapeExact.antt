@@ -6,8 +6,7 @@ use Rattle.std.proofs.lemmas.Bool.{cases_Bool, eqb-true}
 use Rattle.std.proofs.lemmas.Bool.Decides.{nat_tests}
 use Rattle.tm_onig_class.specs.declared.names.Known.{Known}
 use Rattle.tm_onig_class.specs.Named.{known}
-use Rattle.tm_onig_class.specs.Tree.{Tree}
-use Rattle.tm_onig_class.specs.Widths.{least_width}
+use Rattle.tm_onig_class.specs.Tree.{Tree, IsOne}
 use Rattle.tm_onig_atom.specs.declared.options.Options.{Options}
 use Rattle.tm_onig_atom.specs.declared.meanings.Named.{Named}
 use Rattle.tm_onig_atom.specs.declared.meanings.Meant.{Meant}
@@ -289,13 +288,12 @@ escape_found o t tree rest e =
     }
 
 -- An escape takes one character.
-pub escape_width : (o : Options) (e : Escape) → least_width (escape_tree o e) ≡ 1
-unfolding least_width
-escape_width o e = by_meaning (meant e)
+pub escape_one : (o : Options) (e : Escape) → IsOne (escape_tree o e)
+escape_one o e = by_meaning (meant e)
   where
-    by_meaning : (m : Meant) → least_width (meant_tree o m) ≡ 1
-    by_meaning (Character c) = refl
-    by_meaning (Members named) = refl
+    by_meaning : (m : Meant) → IsOne (meant_tree o m)
+    by_meaning (Character c) = tt
+    by_meaning (Members named) = tt
 
 -- what an escaped character is not
 sign_no_digit : (c value : ℕ) → escaped_char c ≡ Some value → 49 ≤ c → c ≤ 57 → ⊥

@@ -1,7 +1,6 @@
 //! Escapes and classes as patterns.
 ghost use Rattle.std.specs.Prelude.{◌≡◌, ℕ, ◌≤◌, List, IfOk, Some};
-ghost use Rattle.tm_onig_class.specs.Tree.{Tree, tree_of};
-ghost use Rattle.tm_onig_class.specs.Widths.{least_width};
+ghost use Rattle.tm_onig_class.specs.Tree.{IsOne, Tree, tree_of};
 ghost use Rattle.tm_onig_atom.specs.declared.meanings.Meant.TheVariants.{Members};
 ghost use Rattle.tm_onig_atom.specs.Escapes.{Escape, BeginsEscape, meant_tree, escape_tree};
 ghost use Rattle.tm_onig_atom.specs.Classes.{Class, BeginsClass, class_height, class_tree};
@@ -83,7 +82,7 @@ pub fn escape<'a>(
     // An escape that stands there is read, unless memory runs out.
     ensures only { (e : Escape) (rest : List ℕ) → BeginsEscape text.now e rest → Gives {Y = Tree × List ℕ} (λ x. (tree_of x.0, x.1.now)) result (Some (escape_tree options e, rest)) }
     // Each match takes one character.
-    ensures wide { IfOk result (λ x. least_width (tree_of x.0) ≡ 1) }
+    ensures wide { IfOk result (λ x. IsOne (tree_of x.0)) }
     // The same as a function of the text.
     ensures read { Gives (λ x. (tree_of x.0, x.1.now)) result (escape_at options text.now) }
 {
@@ -126,7 +125,7 @@ pub fn class<'a>(
     // It is nested no deeper.
     ensures low { IfOk result (λ x. x.0.1 ≤ depth) }
     // Each match takes one character.
-    ensures wide { IfOk result (λ x. least_width (tree_of x.0.0) ≡ 1) }
+    ensures wide { IfOk result (λ x. IsOne (tree_of x.0.0)) }
     // The same as a function of the text.
     ensures read { Gives (λ x. ((tree_of x.0.0, x.0.1), x.1.now)) result (class_at depth options text.now) }
 {

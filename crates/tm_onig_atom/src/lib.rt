@@ -20,8 +20,3 @@ pub mod slices;
 pub mod store;
 
 pub use fault::AtomFault;
-
-#[cfg(test)]
-mod tables;
-#[cfg(test)]
-mod tests;

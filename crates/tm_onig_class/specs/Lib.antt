@@ -5,5 +5,5 @@ pub mod Folding
 pub mod Listed
 pub mod Named
 pub mod Tree
-pub mod Widths
+pub mod Limits
 pub mod Groups

@@ -45,6 +45,12 @@ node_tree (Pattern-F.Look body ahead negative) = Look body.value ahead negative
 node_tree (Pattern-F.Back groups fold) = Back groups fold
 node_tree (Pattern-F.Position place) = Holds place
 
+-- A character or a set: each match takes exactly one character.
+abbrev pub IsOne : Tree → Type 0
+IsOne (Char c fold) = Unit {0}
+IsOne (InSet set fold) = Unit {0}
+IsOne _ = ⊥
+
 -- the tree of a pattern
 abbrev pub tree_of : Pattern → Tree
 tree_of = fold-Pattern Tree node_tree

@@ -11,5 +11,3 @@ pub mod names;
 pub mod patterns;
 mod ranks;
 pub mod sets;
-#[cfg(test)]
-mod tests;

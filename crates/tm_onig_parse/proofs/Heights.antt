@@ -4,7 +4,7 @@ use Rattle.std.proofs.lemmas.Bool.Decides.{nat_tests}
 use Rattle.tm_onig_parse.specs.declared.groups.Opener.{Opener}
 use Rattle.tm_onig_parse.specs.declared.groups.Opener.TheVariants.{Captures, Groups, Sets, Keeps, Looks}
 use Rattle.tm_onig_parse.specs.declared.quantifiers.Manner.{Manner}
-use Rattle.tm_onig_parse.specs.declared.quantifiers.Manner.TheVariants.{Greedy, Lazy, Possessive, Optional, Again}
+use Rattle.tm_onig_parse.specs.declared.quantifiers.Manner.TheVariants.{Greedy, Lazy, Possessive, Optional}
 use Rattle.tm_onig_parse.specs.Meaning.{Built, highest, row_built, alts_built, enclosed, repeated, is_greedy, around, quantified}
 
 -- the second is at most the greater
@@ -73,7 +73,6 @@ around_low Greedy b h = h
 around_low Lazy b h = h
 around_low Possessive b h = h
 around_low Optional b h = at_least b.repeated b.height h
-around_low Again b h = at_least b.repeated b.height h
 
 -- what stands before a quantifier
 pub quantified_low : (least : ℕ) (greatest : Option ℕ) (manner : Manner) (b : Built) → (quantified least greatest manner b).height ≤ 200 → b.height ≤ 200

@@ -4,6 +4,7 @@ use Rattle.std.specs.Prelude.{IfOk, nat_le, if◌then◌else◌}
 use Rattle.std.proofs.lemmas.Option.{cond_some}
 use Rattle.std.proofs.lemmas.Bool.{leb-true}
 use Rattle.tm_onig_class.specs.Groups.{IsNumbered}
+use Rattle.tm_onig_class.specs.Limits.{AreLimitsInOrder}
 use Rattle.tm_onig_class.specs.Tree.{Tree, tree_of}
 use Rattle.tm_onig_class.specs.declared.patterns.Pattern.{Pattern}
 use Rattle.tm_onig_parse.specs.declared.ParseFault.{ParseFault}
@@ -24,6 +25,7 @@ use Rattle.tm_onig_parse.proofs.Heights.{alts_low}
 use Rattle.tm_onig_parse.proofs.Structure.{Runs, kind, body_run, BodyRun, whole_body}
 use Rattle.tm_onig_parse.proofs.Back.{Stack, stack, state_of, stack_written, options_of, kind_options, step_back, same_state, Ends, finish_back}
 use Rattle.tm_onig_parse.proofs.GroupsRead.{groups_read}
+use Rattle.tm_onig_parse.proofs.Ordered.{spells_ordered}
 use Rattle.tm_onig_parse.proofs.Numbering.{spells_numbered}
 
 -- what follows is the same
@@ -188,6 +190,11 @@ parsed_only t body s =
 pub found_in : (t : List ℕ) (r : Result Pattern ParseFault) → Gives tree_of r (parsed t) → IfOk r (λ pattern. (body : Body) × Spells t body × (tree_of pattern ≡ meaning body))
 found_in t (Ok pattern) e = parsed_found t (tree_of pattern) e
 found_in t (Err fault) e = tt
+
+-- what is read has the limits of its loops in order
+pub ordered_in : (t : List ℕ) (r : Result Pattern ParseFault) → Gives tree_of r (parsed t) → IfOk r (λ pattern. AreLimitsInOrder (tree_of pattern))
+ordered_in t (Ok pattern) e = let found = parsed_found t (tree_of pattern) e in subst AreLimitsInOrder (sym found.2) (spells_ordered t found.0 found.1)
+ordered_in t (Err fault) e = tt
 
 -- what is read has its groups numbered
 pub numbered_in : (t : List ℕ) (r : Result Pattern ParseFault) → Gives tree_of r (parsed t) → IfOk r (λ pattern. IsNumbered (tree_of pattern))

@@ -13,11 +13,11 @@ use Rattle.tm_onig_atom.specs.Reading as Atoms
 use Rattle.tm_onig_atom.proofs.ClassExact.{class_again, class_found}
 use Rattle.tm_onig_atom.proofs.EscapeExact.{escape_again as character_again, escape_found as character_found}
 use Rattle.tm_onig_atom.proofs.Texts.{chosen, differs, or_parts}
-use Rattle.tm_onig_parse.specs.declared.quantifiers.Manner.TheVariants.{Lazy, Possessive, Again}
+use Rattle.tm_onig_parse.specs.declared.quantifiers.Manner.TheVariants.{Lazy}
 use Rattle.tm_onig_parse.specs.Characters.{single_tree, is_special, place_letter}
 use Rattle.tm_onig_parse.specs.Intervals.{Bounds, bounds_text, IsBounds, NoBounds, least_in, greatest_in}
 use Rattle.tm_onig_parse.specs.Names.{Names, reference_text, key_of, meant_in}
-use Rattle.tm_onig_parse.specs.Things.{is_blank, skips, begins_reference, back_tree, Atom, Plain, Escaped, Placed, Bracketed, Refers, atom_text, IsAtom, Opening, Capture, Named, Group, Keep, Look, opening_text, sign_bounds, Amount, Sign, Braces, amount_text, IsAmount, least_of, greatest_of, Mark, mark_text, EndsMark, with_question, with_plus, manner_of, Skip, Comment, Blank, Remark, skip_text, ends_line, IsSkip, Tok, Single, Opens, Setting, Closing, Bar, Times, Skipped, text_of, IsTok}
+use Rattle.tm_onig_parse.specs.Things.{is_blank, skips, begins_reference, back_tree, Atom, Plain, Escaped, Placed, Bracketed, Refers, atom_text, IsAtom, Opening, Capture, Named, Group, Keep, Look, opening_text, sign_bounds, Amount, Sign, Braces, amount_text, IsAmount, least_of, greatest_of, Mark, mark_text, EndsMark, takes_plus, with_question, manner_of, Skip, Comment, Blank, Remark, skip_text, ends_line, IsSkip, Tok, Single, Opens, Setting, Closing, Bar, Times, Skipped, text_of, IsTok}
 use Rattle.tm_onig_parse.specs.Meaning.{atom_built, nested, leaf}
 use Rattle.tm_onig_parse.specs.Reading.{Sym, Means, Repeats, Skips, Found, bounds_at, comment_at, open_at, groups_at, times_at, interval_at, braces_at, means, means_escape, place_or, escape_at, means_class, line_end, bounds_or, sign_or, token_at}
 use Rattle.tm_onig_parse.proofs.BoundsExact.{bounds_again, bounds_found, no_bounds, lacks_bounds}
@@ -177,15 +177,15 @@ unfolding token_at sign_bounds
 brace_token names o t some = bounds_or_char o 123 t (brace_kept o) ∙ (rw some refl)
 
 -- a quantifier that is written is read
-times_again : (names : Option Names) (a : Amount) (mark : Mark) (o : Options) (rest : List ℕ) → IsAmount a → EndsMark mark rest →
+times_again : (names : Option Names) (a : Amount) (mark : Mark) (o : Options) (rest : List ℕ) → IsAmount a → EndsMark (takes_plus a) mark rest →
     token_at names o ((amount_text a ++ mark_text mark) ++ rest) ≡ Some (Repeats (least_of a) (greatest_of a) (manner_of a mark), rest)
 times_again names (Sign sign least greatest) mark o rest is ends =
-    ordinary_token names o sign (mark_text mark ++ rest) (sign_ordinary sign _ is) ∙ (rw is (mark_again least greatest Lazy Possessive mark rest ends))
+    ordinary_token names o sign (mark_text mark ++ rest) (sign_ordinary sign _ is) ∙ (rw is (mark_again least greatest Lazy true mark rest ends))
 times_again names (Braces b) mark o rest is ends =
     let more = mark_text mark ++ rest in
     ap (λ u. token_at names o (123 ∷ u)) (append_assoc (bounds_text b) (mark_text mark) rest)
     ∙ brace_token names o (bounds_text b ++ more) (bounds_again b more is.0)
-    ∙ (rw (interval_again b more is.0 is.1, question_same b) (mark_again (least_in b) (greatest_in b) (with_question (Braces b)) Again mark rest ends))
+    ∙ (rw (interval_again b more is.0 is.1, question_same b) (mark_again (least_in b) (greatest_in b) (with_question (Braces b)) false mark rest ends))
 
 -- the end of the line behind what has none
 line_end_again : (text rest : List ℕ) → list_any (λ c. c == 10) text ≡ false → ends_line rest ≡ true → line_end (text ++ rest) ≡ rest
@@ -252,9 +252,9 @@ token_again names (Skipped s) o rest is = skip_again names s o rest is
 
 -- a quantifier that is read
 times_found : (names : Option Names) (a : Amount) (o : Options) → IsAmount a → (t : List ℕ) (y : Sym) (rest : List ℕ) →
-    times_at (least_of a) (greatest_of a) (with_question a) (with_plus a) t ≡ Some (y, rest) → Reads names o (amount_text a ++ t) y rest
+    times_at (least_of a) (greatest_of a) (with_question a) (takes_plus a) t ≡ Some (y, rest) → Reads names o (amount_text a ++ t) y rest
 times_found names a o is t y rest e =
-    let m = mark_found (least_of a) (greatest_of a) (with_question a) (with_plus a) t y rest e in
+    let m = mark_found (least_of a) (greatest_of a) (with_question a) (takes_plus a) t y rest e in
     record {
       tok = Times a m.mark;
       whole = ap (λ u. amount_text a ++ u) m.whole ∙ sym (append_assoc (amount_text a) (mark_text m.mark) rest);

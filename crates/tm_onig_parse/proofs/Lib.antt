@@ -15,4 +15,6 @@ pub mod Laws
 pub mod Turns
 pub mod Steps
 pub mod Settling
+mod Each
 pub mod Numbering
+mod Ordered

@@ -11,7 +11,7 @@ use Rattle.tm_onig_class.specs.Groups.{group_numbers, numbers_in, references, re
 use Rattle.tm_onig_atom.specs.declared.options.Options.{Options}
 use Rattle.tm_onig_parse.specs.declared.groups.Opener.TheVariants.{Captures, Groups, Sets, Keeps, Looks}
 use Rattle.tm_onig_parse.specs.declared.quantifiers.Manner.{Manner}
-use Rattle.tm_onig_parse.specs.declared.quantifiers.Manner.TheVariants.{Greedy, Lazy, Possessive, Optional, Again}
+use Rattle.tm_onig_parse.specs.declared.quantifiers.Manner.TheVariants.{Greedy, Lazy, Possessive, Optional}
 use Rattle.tm_onig_atom.specs.NoOptions.{no_options}
 use Rattle.tm_onig_atom.specs.declared.meanings.Meant.{Meant}
 use Rattle.tm_onig_atom.specs.declared.meanings.Meant.TheVariants.{Character, Members}
@@ -19,9 +19,10 @@ use Rattle.tm_onig_atom.specs.Classes.{Class, class_tree}
 use Rattle.tm_onig_atom.specs.Escapes.{meant as meant_by, meant_tree}
 use Rattle.tm_onig_parse.specs.Characters.{is_special, single_tree}
 use Rattle.tm_onig_parse.specs.Names.{Names, is_called, called_from, some_in, Key, Number, Name, key_of, meant}
-use Rattle.tm_onig_parse.specs.Things.{back_tree, Atom, Plain, Escaped, Placed, Bracketed, Refers, IsAtom, inside, opener_of, name_of, begun, count, least_of, greatest_of, manner_of, Toks, Single, Opens, Setting, Closing, Bar, Times, Skipped, spelling, AreToks, names_begun, names_among}
+use Rattle.tm_onig_parse.specs.Things.{back_tree, Atom, Plain, Escaped, Placed, Bracketed, Refers, IsAtom, inside, opener_of, name_of, begun, count, least_of, greatest_of, manner_of, Tok, IsTok, Toks, Single, Opens, Setting, Closing, Bar, Times, Skipped, names_begun, names_among}
 use Rattle.tm_onig_parse.specs.Grammar.{Body, Simply, Under, Alts, First, Also, Row, Nothing, Then, Noted, Piece, Alone, Inside, Repeated, Behind, end_options, written, written_alts, written_row, written_piece, groups, groups_alts, groups_row, groups_piece}
 use Rattle.tm_onig_parse.specs.Meaning.{Built, enclosed, quantified, tree_in, row_built, alts_built, atom_built, bodies, rows, parts, piece_built, meaning, names_in, Spells}
+use Rattle.tm_onig_parse.proofs.Each.{Each, each_tok, each_split}
 
 -- A tree without groups and references.
 record IsBare (tree : Tree) : Type 0 where
@@ -120,33 +121,22 @@ atom_leaf names (Placed c place) o rest is = record { numbers = refl; known = re
 atom_leaf names (Bracketed k tree) o rest is = subst (IsLeaf (length names)) is.2 (class_leaf (length names) o k)
 atom_leaf names (Refers r tree) o rest is = back_leaf names (key_of r) o (meant names (key_of r)) tree refl is.1
 
--- The atoms among the things are atoms, whatever follows.
-abbrev AreAtoms : Names → Toks → Type 0
-AreAtoms names [] = Unit {0}
-AreAtoms names ((Single a, o) ∷ ks) = ((rest : List ℕ) × IsAtom (Some names) a o rest) × AreAtoms names ks
-AreAtoms names (k ∷ ks) = AreAtoms names ks
+-- What an atom among the things means is a leaf.
+abbrev MeansLeaf : ℕ → Tok → Type 0
+MeansLeaf m (Single a) = IsLeaf m (atom_built a).tree
+MeansLeaf m _ = Unit {0}
 
--- things in a row are so
-toks_atoms : (names : Names) (ks : Toks) → AreToks (Some names) ks → AreAtoms names ks
-toks_atoms names [] are = tt
-toks_atoms names ((Single a, o) ∷ ks) are = ((spelling ks, are.0), toks_atoms names ks are.1)
-toks_atoms names ((Opens k, o) ∷ ks) are = toks_atoms names ks are.1
-toks_atoms names ((Setting letters after, o) ∷ ks) are = toks_atoms names ks are.1
-toks_atoms names ((Closing, o) ∷ ks) are = toks_atoms names ks are.1
-toks_atoms names ((Bar, o) ∷ ks) are = toks_atoms names ks are.1
-toks_atoms names ((Times amount mark, o) ∷ ks) are = toks_atoms names ks are.1
-toks_atoms names ((Skipped s, o) ∷ ks) are = toks_atoms names ks are.1
+tok_leaf : (names : Names) (k : Tok) (o : Options) (rest : List ℕ) → IsTok (Some names) k o rest → MeansLeaf (length names) k
+tok_leaf names (Single a) o rest is = atom_leaf names a o rest is
+tok_leaf names (Opens k) o rest is = tt
+tok_leaf names (Setting letters after) o rest is = tt
+tok_leaf names Closing o rest is = tt
+tok_leaf names Bar o rest is = tt
+tok_leaf names (Times amount mark) o rest is = tt
+tok_leaf names (Skipped s) o rest is = tt
 
--- and so is each of two rows
-atoms_split : (names : Names) (ks ls : Toks) → AreAtoms names (ks ++ ls) → AreAtoms names ks × AreAtoms names ls
-atoms_split names [] ls are = (tt, are)
-atoms_split names ((Single a, o) ∷ ks) ls are = let rest = atoms_split names ks ls are.1 in ((are.0, rest.0), rest.1)
-atoms_split names ((Opens k, o) ∷ ks) ls are = atoms_split names ks ls are
-atoms_split names ((Setting letters after, o) ∷ ks) ls are = atoms_split names ks ls are
-atoms_split names ((Closing, o) ∷ ks) ls are = atoms_split names ks ls are
-atoms_split names ((Bar, o) ∷ ks) ls are = atoms_split names ks ls are
-atoms_split names ((Times amount mark, o) ∷ ks) ls are = atoms_split names ks ls are
-atoms_split names ((Skipped s, o) ∷ ks) ls are = atoms_split names ks ls are
+abbrev AreLeaves : ℕ → Toks → Type 0
+AreLeaves m = Each (MeansLeaf m)
 
 -- the numbers of built parts, one after another
 abbrev numbers_of : List Built → List ℕ
@@ -263,7 +253,6 @@ quantified_count m least greatest Greedy b n k c = c
 quantified_count m least greatest Lazy b n k c = c
 quantified_count m least greatest Possessive b n k c = c
 quantified_count m least greatest Optional b n k c = c
-quantified_count m least greatest Again b n k c = c
 
 -- a group around what is counted
 enclosed_count : (m : ℕ) (k : Opener) (b : Built) (n g : ℕ) → Counts m (group_numbers b.tree) (references b.tree) (n + count k) g →
@@ -282,51 +271,51 @@ alts_count m ts n k c = counts_of m _ _ _ _ n k (alts_numbers ts) (alts_named ts
 mutual
   unfolding group_numbers references counted
 
-  bodies_count : (names : Names) (b : Body) (o : Options) (n : ℕ) → AreAtoms names (written b o) → Counts (length names) (numbers_of (bodies b n)) (named_by (bodies b n)) n (groups b)
+  bodies_count : (names : Names) (b : Body) (o : Options) (n : ℕ) → AreLeaves (length names) (written b o) → Counts (length names) (numbers_of (bodies b n)) (named_by (bodies b n)) n (groups b)
   bodies_count names (Simply alts) o n are =
       counts_same (length names) _ _ n n (groups_alts alts + 0) (groups_alts alts) refl (omega arith)
       (rows_count names alts [] o n 0 are (record { in_order = refl; known = refl }))
   bodies_count names (Under alts letters after body) o n are =
-      let each = atoms_split names (written_alts alts o) ((Setting letters after, o) ∷ written body after) are in
+      let each = each_split (MeansLeaf (length names)) (written_alts alts o) ((Setting letters after, o) ∷ written body after) are in
       let m = n + groups_alts alts in
       rows_count names alts (enclosed Sets m (alts_built (bodies body m)) ∷ []) o n (groups body) each.0
-      (one_part (length names) (enclosed Sets m (alts_built (bodies body m))) m (groups body) (alts_count (length names) (bodies body m) m (groups body) (bodies_count names body after m each.1)))
+      (one_part (length names) (enclosed Sets m (alts_built (bodies body m))) m (groups body) (alts_count (length names) (bodies body m) m (groups body) (bodies_count names body after m each.1.1)))
 
-  rows_count : (names : Names) (a : Alts) (more : List Built) (o : Options) (n k : ℕ) → AreAtoms names (written_alts a o) →
+  rows_count : (names : Names) (a : Alts) (more : List Built) (o : Options) (n k : ℕ) → AreLeaves (length names) (written_alts a o) →
       Counts (length names) (numbers_of more) (named_by more) (n + groups_alts a) k →
       Counts (length names) (numbers_of (rows a more n)) (named_by (rows a more n)) n (groups_alts a + k)
   rows_count names (First row) more o n k are rest =
       one_row (length names) (parts row n ++ more) n (groups_row row + k) (lists_join (length names) (parts row n) more n (groups_row row) k (parts_count names row o n are) rest)
   rows_count names (Also alts row) more o n k are rest =
-      let each = atoms_split names (written_alts alts o) ((Bar, o) ∷ written_row row o) are in
+      let each = each_split (MeansLeaf (length names)) (written_alts alts o) ((Bar, o) ∷ written_row row o) are in
       let m = n + groups_alts alts in
       let all = length names in
       let front = counts_same all _ _ n n (groups_alts alts + 0) (groups_alts alts) refl (omega arith) (rows_count names alts [] o n 0 each.0 (record { in_order = refl; known = refl })) in
-      let last = lists_join all (parts row m) more m (groups_row row) k (parts_count names row o m each.1) (counts_same all _ _ (n + (groups_alts alts + groups_row row)) (m + groups_row row) k k (omega arith) refl rest) in
+      let last = lists_join all (parts row m) more m (groups_row row) k (parts_count names row o m each.1.1) (counts_same all _ _ (n + (groups_alts alts + groups_row row)) (m + groups_row row) k k (omega arith) refl rest) in
       counts_same all _ _ n n (groups_alts alts + (groups_row row + k)) ((groups_alts alts + groups_row row) + k) refl (omega arith)
       (lists_join all (rows alts [] n) (row_built (parts row m ++ more) ∷ []) n (groups_alts alts) (groups_row row + k) front (one_row all (parts row m ++ more) m (groups_row row + k) last))
 
-  parts_count : (names : Names) (r : Row) (o : Options) (n : ℕ) → AreAtoms names (written_row r o) → Counts (length names) (numbers_of (parts r n)) (named_by (parts r n)) n (groups_row r)
+  parts_count : (names : Names) (r : Row) (o : Options) (n : ℕ) → AreLeaves (length names) (written_row r o) → Counts (length names) (numbers_of (parts r n)) (named_by (parts r n)) n (groups_row r)
   parts_count names Nothing o n are = record { in_order = refl; known = refl }
-  parts_count names (Noted row s) o n are = parts_count names row o n (atoms_split names (written_row row o) ((Skipped s, o) ∷ []) are).0
+  parts_count names (Noted row s) o n are = parts_count names row o n (each_split (MeansLeaf (length names)) (written_row row o) ((Skipped s, o) ∷ []) are).0
   parts_count names (Then row piece) o n are =
-      let each = atoms_split names (written_row row o) (written_piece piece o) are in
+      let each = each_split (MeansLeaf (length names)) (written_row row o) (written_piece piece o) are in
       let m = n + groups_row row in
       lists_join (length names) (parts row n) (piece_built piece m ∷ []) n (groups_row row) (groups_piece piece) (parts_count names row o n each.0)
       (one_part (length names) (piece_built piece m) m (groups_piece piece) (piece_count names piece o m each.1))
 
-  piece_count : (names : Names) (p : Piece) (o : Options) (n : ℕ) → AreAtoms names (written_piece p o) →
+  piece_count : (names : Names) (p : Piece) (o : Options) (n : ℕ) → AreLeaves (length names) (written_piece p o) →
       Counts (length names) (group_numbers (piece_built p n).tree) (references (piece_built p n).tree) n (groups_piece p)
-  piece_count names (Alone a) o n are = let leaf = atom_leaf names a o are.0.0 are.0.1 in record { in_order = leaf.numbers; known = leaf.known }
-  piece_count names (Behind piece s) o n are = piece_count names piece o n (atoms_split names (written_piece piece o) ((Skipped s, o) ∷ []) are).0
+  piece_count names (Alone a) o n are = record { in_order = are.0.numbers; known = are.0.known }
+  piece_count names (Behind piece s) o n are = piece_count names piece o n (each_split (MeansLeaf (length names)) (written_piece piece o) ((Skipped s, o) ∷ []) are).0
   piece_count names (Inside k body) o n are =
       let p = inside k o in
       let m = n + count (opener_of k) in
       enclosed_count (length names) (opener_of k) (alts_built (bodies body m)) n (groups body)
-      (alts_count (length names) (bodies body m) m (groups body) (bodies_count names body p m (atoms_split names (written body p) ((Closing, end_options body p) ∷ []) are).0))
+      (alts_count (length names) (bodies body m) m (groups body) (bodies_count names body p m (each_split (MeansLeaf (length names)) (written body p) ((Closing, end_options body p) ∷ []) are.1).0))
   piece_count names (Repeated piece amount mark) o n are =
       quantified_count (length names) (least_of amount) (greatest_of amount) (manner_of amount mark) (piece_built piece n) n (groups_piece piece)
-      (piece_count names piece o n (atoms_split names (written_piece piece o) ((Times amount mark, o) ∷ []) are).0)
+      (piece_count names piece o n (each_split (MeansLeaf (length names)) (written_piece piece o) ((Times amount mark, o) ∷ []) are).0)
 
 -- the groups of two rows of things
 names_among-append : (ks ls : Toks) → names_among (ks ++ ls) ≡ names_among ks ++ names_among ls
@@ -391,4 +380,4 @@ spells_numbered t body s =
     let many = length-names body no_options in
     numbered (meaning body) (groups body) s.few_groups
     (subst (λ m. Counts m (group_numbers (meaning body)) (references (meaning body)) 0 (groups body)) many
-    (alts_count (length (names_in body)) (bodies body 0) 0 (groups body) (bodies_count (names_in body) body no_options 0 (toks_atoms (names_in body) _ s.are))))
+    (alts_count (length (names_in body)) (bodies body 0) 0 (groups body) (bodies_count (names_in body) body no_options 0 (each_tok (MeansLeaf (length (names_in body))) (Some (names_in body)) (tok_leaf (names_in body)) (written body no_options) s.are))))

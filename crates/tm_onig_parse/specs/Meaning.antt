@@ -1,11 +1,11 @@
 -- What a pattern means, and which texts are patterns.
-use Rattle.std.specs.Prelude.{◌≡◌, ℕ, ◌+◌, ◌≤◌, Bool, true, false, List, [], ◌∷◌, ◌++◌, map, max, length, Option, Some, None, if◌then◌else◌}
+use Rattle.std.specs.Prelude.{◌≡◌, ℕ, ◌+◌, ◌≤◌, Bool, true, false, List, [], ◌∷◌, ◌++◌, map, max, length, Option, Some, if◌then◌else◌}
 use Rattle.tm_onig_atom.specs.Classes.{class_height}
 use Rattle.tm_onig_class.specs.Tree.{Tree, Empty, Cat, Alt, Group, Atomic, Look, Repeat, Holds, trees}
 use Rattle.tm_onig_parse.specs.declared.groups.Opener.{Opener}
 use Rattle.tm_onig_parse.specs.declared.groups.Opener.TheVariants.{Captures, Groups, Sets, Keeps, Looks}
 use Rattle.tm_onig_parse.specs.declared.quantifiers.Manner.{Manner}
-use Rattle.tm_onig_parse.specs.declared.quantifiers.Manner.TheVariants.{Greedy, Lazy, Possessive, Optional, Again}
+use Rattle.tm_onig_parse.specs.declared.quantifiers.Manner.TheVariants.{Greedy, Lazy, Possessive, Optional}
 use Rattle.tm_onig_atom.specs.NoOptions.{no_options}
 use Rattle.tm_onig_parse.specs.Names.{Names}
 use Rattle.tm_onig_parse.specs.Things.{Atom, Plain, Escaped, Placed, Bracketed, Refers, opener_of, count, least_of, greatest_of, manner_of, spelling, AreToks, names_among}
@@ -85,7 +85,6 @@ around Greedy b = b
 around Lazy b = b
 around Possessive b = kept b
 around Optional b = repeated 0 (Some 1) true b
-around Again b = repeated 1 None true b
 
 -- What stands before a quantifier, with it.
 abbrev pub quantified : ℕ → Option ℕ → Manner → Built → Built

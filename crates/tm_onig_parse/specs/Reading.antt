@@ -6,7 +6,7 @@ use Rattle.tm_onig_atom.specs.declared.options.Options.{Options}
 use Rattle.tm_onig_parse.specs.declared.groups.Opener.{Opener}
 use Rattle.tm_onig_parse.specs.declared.groups.Opener.TheVariants.{Captures, Groups, Sets, Keeps, Looks}
 use Rattle.tm_onig_parse.specs.declared.quantifiers.Manner.{Manner}
-use Rattle.tm_onig_parse.specs.declared.quantifiers.Manner.TheVariants.{Greedy, Lazy, Possessive, Optional, Again}
+use Rattle.tm_onig_parse.specs.declared.quantifiers.Manner.TheVariants.{Greedy, Lazy, Possessive, Optional}
 use Rattle.tm_onig_class.specs.declared.patterns.Position.{Position}
 use Rattle.tm_onig_atom.specs.ClassReading.{class_at}
 use Rattle.tm_onig_atom.specs.NoOptions.{no_options}
@@ -103,12 +103,13 @@ unfoldable pub open_at : Options → List ℕ → Found
 open_at o [] = Some (Open Captures None o, [])
 open_at o (c ∷ t) = if c == 63 then groups_at o t else Some (Open Captures None o, c ∷ t)
 
--- a quantifier with these bounds, behind its sign or brace, where a `?` and a `+` set these manners
-unfoldable pub times_at : ℕ → Option ℕ → Manner → Manner → List ℕ → Found
+-- a quantifier with these bounds, behind its sign or brace, where a `?` sets this manner, and whether a `+`
+-- is its mark
+unfoldable pub times_at : ℕ → Option ℕ → Manner → Bool → List ℕ → Found
 times_at least greatest question plus [] = Some (Repeats least greatest Greedy, [])
 times_at least greatest question plus (c ∷ t) =
     if c == 63 then Some (Repeats least greatest question, t)
-    else if c == 43 then Some (Repeats least greatest plus, t)
+    else if plus && (c == 43) then Some (Repeats least greatest Possessive, t)
     else Some (Repeats least greatest Greedy, c ∷ t)
 
 -- a number that is not above the limit
@@ -154,7 +155,7 @@ lazily_exact exact = if exact then Optional else Lazy
 -- a quantifier with such bounds
 abbrev pub braces_at : Interval → Found
 braces_at None = None
-braces_at (Some x) = times_at x.0.0 x.0.1 (lazily_exact x.1.0) Again x.1.1
+braces_at (Some x) = times_at x.0.0 x.0.1 (lazily_exact x.1.0) false x.1.1
 
 -- a leaf, if there is one
 abbrev pub means : Option Tree → List ℕ → Found
@@ -230,7 +231,7 @@ sign_or o None c t =
     if o.extended && is_blank c then Some (Skips, t)
     else if o.extended && (c == 35) then Some (Skips, line_end t)
     else bounds_or o c t
-sign_or o (Some bounds) c t = times_at bounds.0 bounds.1 Lazy Possessive t
+sign_or o (Some bounds) c t = times_at bounds.0 bounds.1 Lazy true t
 
 -- the first thing of the text, where the pattern has these groups
 unfoldable pub token_at : Option Names → Options → List ℕ → Found

@@ -10,7 +10,7 @@ use Rattle.tm_onig_atom.specs.declared.options.Options.{Options}
 use Rattle.tm_onig_parse.specs.declared.groups.Opener.{Opener}
 use Rattle.tm_onig_parse.specs.declared.groups.Opener.TheVariants.{Captures, Groups, Sets, Keeps, Looks}
 use Rattle.tm_onig_parse.specs.declared.quantifiers.Manner.{Manner}
-use Rattle.tm_onig_parse.specs.declared.quantifiers.Manner.TheVariants.{Greedy, Lazy, Possessive, Optional, Again}
+use Rattle.tm_onig_parse.specs.declared.quantifiers.Manner.TheVariants.{Greedy, Lazy, Possessive, Optional}
 use Rattle.tm_onig_class.specs.declared.patterns.Position.{Position}
 use Rattle.tm_onig_atom.specs.Classes.{Class, class_text, IsClass, class_height, class_tree}
 use Rattle.tm_onig_atom.specs.Escapes.{begins, Escape, escape_head, escape_text, IsEscape, escape_tree}
@@ -167,30 +167,32 @@ mark_text Bare = []
 mark_text Question = 63 ∷ []
 mark_text Plus = 43 ∷ []
 
--- A `?` or a `+` behind an amount is its mark.
-abbrev pub EndsMark : Mark → List ℕ → Type 0
-EndsMark Bare rest = (begins 63 rest ≡ false) × (begins 43 rest ≡ false)
-EndsMark mark rest = Unit {0}
+-- A `+` directly behind it is its mark: behind a sign, and not behind bounds, where it is a quantifier of
+-- its own.
+abbrev pub takes_plus : Amount → Bool
+takes_plus (Sign sign least greatest) = true
+takes_plus (Braces b) = false
+
+-- A `?` behind an amount is its mark, and a `+` where the amount takes one.
+abbrev pub EndsMark : Bool → Mark → List ℕ → Type 0
+EndsMark plus Bare rest = (begins 63 rest ≡ false) × ((plus && begins 43 rest) ≡ false)
+EndsMark plus Question rest = Unit {0}
+EndsMark plus Plus rest = plus ≡ true
 
 -- What a `?` makes of an amount: of one number it makes no lazy one, but what may be left out.
 abbrev pub with_question : Amount → Manner
 with_question (Braces (Exactly n)) = Optional
 with_question amount = Lazy
 
--- What a `+` makes of it.
-abbrev pub with_plus : Amount → Manner
-with_plus (Sign sign least greatest) = Possessive
-with_plus (Braces b) = Again
-
--- What a mark makes of it, where a `?` and a `+` make these.
-abbrev pub marked : Manner → Manner → Mark → Manner
-marked question plus Bare = Greedy
-marked question plus Question = question
-marked question plus Plus = plus
+-- What a mark makes of it, where a `?` makes this.
+abbrev pub marked : Manner → Mark → Manner
+marked question Bare = Greedy
+marked question Question = question
+marked question Plus = Possessive
 
 -- How an amount with its mark repeats.
 abbrev pub manner_of : Amount → Mark → Manner
-manner_of amount mark = marked (with_question amount) (with_plus amount) mark
+manner_of amount mark = marked (with_question amount) mark
 
 -- What means nothing: a comment up to its `)`, and where options say so white space, and what stands
 -- behind a `#` in its line.
@@ -241,7 +243,7 @@ abbrev pub IsTok : Option Names → Tok → Options → List ℕ → Type 0
 IsTok names (Single a) o rest = IsAtom names a o rest
 IsTok names (Opens k) o rest = IsOpening k o rest
 IsTok names (Setting letters after) o rest = switched true o letters ≡ Some after
-IsTok names (Times amount mark) o rest = IsAmount amount × EndsMark mark rest
+IsTok names (Times amount mark) o rest = IsAmount amount × EndsMark (takes_plus amount) mark rest
 IsTok names (Skipped s) o rest = IsSkip s o rest
 IsTok names _ o rest = Unit {0}
 

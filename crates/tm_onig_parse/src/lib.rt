@@ -8,6 +8,7 @@
 
 ghost use Rattle.std.specs.Prelude.{◌≡◌, ℕ, List, IfOk, Some};
 ghost use Rattle.tm_onig_class.specs.Groups.{IsNumbered};
+ghost use Rattle.tm_onig_class.specs.Limits.{AreLimitsInOrder};
 ghost use Rattle.tm_onig_class.specs.Tree.{Tree, tree_of};
 ghost use Rattle.tm_onig_parse.specs.Grammar.{Body};
 ghost use Rattle.tm_onig_parse.specs.Meaning.{Spells, meaning};
@@ -60,6 +61,8 @@ pub fn parse(alloc: Global, text: &Name) -> Result<Pattern, ParseFault>
     ensures only { (body : Body) → Spells text.now body → Gives tree_of result (Some (meaning body)) }
     // Its groups are numbered from 1 in the order of their opening.
     ensures numbered { IfOk result (λ pattern. IsNumbered (tree_of pattern)) }
+    // The limits of its loops are in order.
+    ensures ordered { IfOk result (λ pattern. AreLimitsInOrder (tree_of pattern)) }
     // The same as a function of the text.
     ensures read { Gives tree_of result (parsed text.now) }
 {
@@ -72,8 +75,3 @@ pub fn reading_is_by_the_grammar()
     ensures found { (text : List ℕ) (tree : Tree) → parsed text ≡ Some tree → (body : Body) × Spells text body × (tree ≡ meaning body) }
     ensures only { (text : List ℕ) (body : Body) → Spells text body → parsed text ≡ Some (meaning body) }
 {}
-
-#[cfg(test)]
-mod table;
-#[cfg(test)]
-mod tests;

@@ -21,8 +21,6 @@ pub enum Manner {
     Possessive,
     /// `{n}?`: greedy, and the whole may be left out.
     Optional,
-    /// Bounds with a `+` behind them: greedy, and the whole once or more.
-    Again,
 }
 
 fn greedy(manner: Manner) -> bool
@@ -30,7 +28,7 @@ fn greedy(manner: Manner) -> bool
 {
     match manner {
         Manner::Lazy => false,
-        Manner::Greedy | Manner::Possessive | Manner::Optional | Manner::Again => true,
+        Manner::Greedy | Manner::Possessive | Manner::Optional => true,
     }
 }
 
@@ -62,7 +60,6 @@ fn wrap(alloc: Global, part: Part, manner: Manner) -> Result<Part, ParseFault>
         Manner::Greedy | Manner::Lazy => Ok(part),
         Manner::Possessive => keep(alloc, part),
         Manner::Optional => repeat(alloc, part, 0, Some(1), true),
-        Manner::Again => repeat(alloc, part, 1, None, true),
     }
 }
 

@@ -80,20 +80,21 @@ fn sign(c: char) -> Option<(u32, Option<u32>)>
     }
 }
 
-/// What follows a sign or a brace with these bounds: a `?` or a `+` sets the manner.
+/// What follows a sign or a brace with these bounds: a `?` sets the manner, and so does a `+` where it is
+/// a mark.
 #[tactic(auto, unfolding(crate::specs::Reading::times_at))]
 fn times(
     least: u32,
     greatest: Option<u32>,
     question: Manner,
-    plus: Manner,
+    plus: bool,
     text: &[char],
 ) -> Result<(Token, &[char]), ParseFault>
     ensures { Gives (λ x. (sym_of_token x.0, x.1.now)) result (times_at least greatest question plus text.now) }
 {
     let (manner, rest) = match text {
         ['?', rest @ ..] => (question, rest),
-        ['+', rest @ ..] => (plus, rest),
+        ['+', rest @ ..] if plus => (Manner::Possessive, rest),
         _ => (Manner::Greedy, text),
     };
     Ok((
@@ -126,7 +127,7 @@ fn braces(text: &[char]) -> Result<(Token, &[char]), ParseFault>
             found.least,
             found.greatest,
             lazily(found.exact),
-            Manner::Again,
+            false,
             rest,
         ),
         None => Err(ParseFault::Unreadable),
@@ -253,7 +254,7 @@ fn sign_or(options: Options, c: char, text: &[char]) -> Result<(Token, &[char]),
     ensures { Gives (λ x. (sym_of_token x.0, x.1.now)) result (sign_or options (sign_bounds c) c text.now) }
 {
     match sign(c) {
-        Some((least, greatest)) => times(least, greatest, Manner::Lazy, Manner::Possessive, text),
+        Some((least, greatest)) => times(least, greatest, Manner::Lazy, true, text),
         None => {
             if options.extended && is_space(c) {
                 return Ok((Token::Skips, text));

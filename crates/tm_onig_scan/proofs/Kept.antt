@@ -2,8 +2,7 @@
 use Rattle.std.proofs.Common.{◌≡◌, ℕ, zero, suc, ◌+◌, ◌-◌, Bool, true, false, length, Option, Some, None, slice_get, ◌==◌, ⊎_elim, subst}
 use Rattle.std.specs.Prelude.{slice_set, drop, slice_range}
 use Rattle.tm_onig_class.specs.Tree.{Tree, Empty, Char, Any, InSet, Cat, Alt, Group, Atomic, Repeat, Look, Back, Holds, Trees, NoTrees, More}
-use Rattle.tm_onig_class.specs.Widths.{least_width}
-use Rattle.tm_onig_search.specs.Widths.{greatest_width}
+use Rattle.tm_onig_search.specs.Widths.{least_width, greatest_width}
 use Rattle.tm_onig_search.specs.Outcomes.{Caps, Hit, Outcome, Rest, fail, accept, looked}
 use Rattle.tm_onig_search.specs.Places.{Subject, passes, begins, holds}
 use Rattle.tm_onig_search.specs.Search.{one, look_back, at_goal, read_group, last_set, rounds, search_tree, search_row, search_any}

@@ -8,7 +8,8 @@ use Rattle.tm_onig_search.specs.Places.{Subject, subject}
 use Rattle.tm_onig_search.specs.Find.{found_or, with_whole, at_start, first_of, first_match, IsLeast, AreWithin, blank, last_group}
 use Rattle.std.specs.Prelude.{replicate}
 use Rattle.tm_onig_search.proofs.Ends.{accept_ends, tree_ends}
-use Rattle.tm_onig_search.proofs.Within.{within_set, accept_sound, tree_within}
+use Rattle.tm_onig_search.proofs.Within.{within_set}
+use Rattle.tm_onig_search.proofs.Spans.{match_kept}
 
 module _ (s : Subject) (t : Tree) where
   -- the first success among n starts from one on
@@ -91,4 +92,4 @@ within t line from allow_a allow_g caps e =
     let ends = tree_ends s t accept least.start least.start (blank t) (omega arith) least.to_end (accept_ends s least.start) least.hit least.matches in
     subst (AreWithin (length line)) (sym least.groups)
     (within_set (length line) least.hit.caps 0 least.start least.hit.end ends.0 ends.1
-    (tree_within s t accept least.start (blank t) least.to_end none (accept_sound s least.start) least.hit least.matches))
+    (match_kept s t least.start (blank t) least.hit least.to_end none least.matches))

@@ -4,8 +4,7 @@ use Rattle.std.proofs.lemmas.Option.{slice_get_within}
 use Rattle.std.proofs.lemmas.Bool.{eqb-false}
 use Rattle.std.specs.Prelude.{drop, slice_range}
 use Rattle.tm_onig_class.specs.Tree.{Tree, Empty, Char, Any, InSet, Cat, Alt, Group, Atomic, Repeat, Look, Back, Holds, Trees, NoTrees, More}
-use Rattle.tm_onig_class.specs.Widths.{least_width}
-use Rattle.tm_onig_search.specs.Widths.{greatest_width}
+use Rattle.tm_onig_search.specs.Widths.{least_width, greatest_width}
 use Rattle.tm_onig_search.specs.Outcomes.{Caps, Hit, Outcome, Rest, tick, fail, spend, or_else, accept, and_then, then_at, if_none, looked}
 use Rattle.tm_onig_search.specs.Places.{Subject, passes, begins, holds}
 use Rattle.tm_onig_search.specs.Search.{one, again, look_back, at_goal, read_group, last_set, choose, rounds, loop, search_tree, search_row, search_any}

@@ -3,10 +3,9 @@ use Rattle.std.specs.Prelude.{◌≡◌, ℕ, ◌+◌, ◌≤◌, Bool, true, fa
 use Rattle.regex_class.specs.Ranges.{Range}
 use Rattle.tm_onig_class.specs.declared.patterns.Position.{Position}
 use Rattle.tm_onig_class.specs.Tree.{Tree, Empty, Char, Any, InSet, Cat, Alt, Group, Atomic, Repeat, Look, Back, Holds, Trees, NoTrees, More}
-use Rattle.tm_onig_class.specs.Widths.{least_width}
 use Rattle.tm_onig_search.specs.Outcomes.{Caps, Rest, fail, accept, tick, or_else, and_then, looked}
 use Rattle.tm_onig_search.specs.Places.{Subject, passes, matches, in_set, is_any, holds}
-use Rattle.tm_onig_search.specs.Widths.{greatest_width}
+use Rattle.tm_onig_search.specs.Widths.{least_width, greatest_width}
 use Rattle.tm_onig_search.specs.Search.{close, choose, again, loop, at_goal, look_back, last_set, read_group, search_tree}
 
 -- What is still to be done: a tree; the end of a group that began at a position; a loop that has made

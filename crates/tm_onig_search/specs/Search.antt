@@ -3,10 +3,9 @@
 use Rattle.std.specs.Option.{option_or}
 use Rattle.std.specs.Prelude.{ℕ, zero, suc, ◌+◌, ◌-◌, min, option_and_then, slice_range, Bool, true, false, ◌&&◌, ◌==◌, nat_lt, nat_le, List, [], ◌∷◌, length, drop, Option, Some, None, slice_get, slice_set, if◌then◌else◌}
 use Rattle.tm_onig_class.specs.Tree.{Tree, Empty, Char, Any, InSet, Cat, Alt, Group, Atomic, Repeat, Look, Back, Holds, Trees, NoTrees, More}
-use Rattle.tm_onig_class.specs.Widths.{least_width}
 use Rattle.tm_onig_search.specs.Outcomes.{Caps, Outcome, Rest, fail, accept, tick, or_else, and_then, looked, prefer}
 use Rattle.tm_onig_search.specs.Places.{Subject, passes, matches, in_set, is_any, begins, holds}
-use Rattle.tm_onig_search.specs.Widths.{greatest_width}
+use Rattle.tm_onig_search.specs.Widths.{least_width, greatest_width}
 
 -- the group ends here
 abbrev pub close : ℕ → ℕ → Rest → Rest

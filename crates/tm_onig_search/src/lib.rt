@@ -5,11 +5,14 @@
 //! what the first match is.
 #![tactic(auto)]
 
-ghost use Rattle.std.specs.Prelude.{◌≡◌, ℕ, ◌≤◌, Bool, List, length, Some, None};
+ghost use Rattle.std.specs.Prelude.{◌≡◌, ℕ, ◌-◌, ◌≤◌, Bool, List, length, Some, None};
+ghost use Rattle.tm_onig_class.specs.Limits.{AreLimitsInOrder};
 ghost use Rattle.tm_onig_class.specs.Tree.{Tree};
-ghost use Rattle.tm_onig_search.specs.Outcomes.{Caps};
+ghost use Rattle.tm_onig_search.specs.Outcomes.{Caps, Hit, accept};
 ghost use Rattle.tm_onig_search.specs.Places.{Subject};
 ghost use Rattle.tm_onig_search.specs.Rows.{SearchRows};
+ghost use Rattle.tm_onig_search.specs.Search.{at_goal, search_tree};
+ghost use Rattle.tm_onig_search.specs.Widths.{HasWidth};
 ghost use Rattle.tm_onig_search.specs.Find.{first_match, hit_at, IsLeast, AreWithin};
 
 /// Law: what a search of a list of goals does, by its first goal. Each case entered costs 1.
@@ -30,4 +33,12 @@ pub fn least_start()
 pub fn groups_within()
     ensures { (t : Tree) (line : List ℕ) (from : ℕ) (allow_a allow_g : Bool) (caps : Caps) →
         first_match t line from allow_a allow_g ≡ Some caps → AreWithin (length line) caps }
+{}
+
+/// Law: what a tree matches has at least its least width, and at most its greatest, if the limits of
+/// each loop in it are in order, as those of every pattern that is read. So a look-behind tries every
+/// start from which its body can come to the position.
+pub fn prove_widths()
+    ensures { (s : Subject) (t : Tree) → AreLimitsInOrder t → (q pos : ℕ) (caps : Caps) (hit : Hit) → q ≤ length s.line →
+        (search_tree s t (at_goal pos accept) q caps).hit ≡ Some hit → (q ≤ pos) × HasWidth t (pos - q) }
 {}

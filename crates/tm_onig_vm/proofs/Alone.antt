@@ -1,8 +1,7 @@
 -- What a body that was searched alone found ends within the line.
 use Rattle.std.proofs.Common.{◌≡◌, ℕ, ◌≤◌, ◌==◌, ⊎_elim, Bool, true, false, cond, Some, length, arith}
 use Rattle.tm_onig_class.specs.Tree.{tree_of}
-use Rattle.tm_onig_class.specs.Widths.{least_width}
-use Rattle.tm_onig_search.specs.Widths.{greatest_width}
+use Rattle.tm_onig_search.specs.Widths.{least_width, greatest_width}
 use Rattle.tm_onig_search.specs.Outcomes.{Caps, Hit, accept, fail}
 use Rattle.tm_onig_search.specs.Places.{Subject}
 use Rattle.tm_onig_search.specs.Search.{at_goal, look_back, search_tree}

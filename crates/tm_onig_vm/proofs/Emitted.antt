@@ -8,8 +8,7 @@ use Rattle.tm_onig_class.specs.declared.patterns.Pattern.{Pattern}
 use Rattle.tm_onig_vm.specs.declared.code.Instr.{Instr}
 use Rattle.tm_onig_vm.specs.declared.code.Instr.TheVariants as I
 use Rattle.std.specs.Prelude.{option_map}
-use Rattle.tm_onig_class.specs.Widths.{least_width}
-use Rattle.tm_onig_search.specs.Widths.{greatest_width}
+use Rattle.tm_onig_search.specs.Widths.{least_width, greatest_width}
 use Rattle.tm_onig_vm.specs.Near.{near}
 use Rattle.tm_onig_vm.specs.Size.{code_size, code_sizes}
 use Rattle.tm_onig_vm.specs.Code.{Code, AheadCode, BehindCode, RowCode, AnyCode, Grows, Adds}

@@ -11,8 +11,7 @@ use Rattle.tm_onig_vm.specs.declared.code.Instr.{Instr}
 use Rattle.tm_onig_vm.specs.declared.code.Instr.TheVariants as I
 use Rattle.std.specs.Prelude.{◌-◌, zero, suc, min, slice_range, drop, option_map}
 use Rattle.std.proofs.lemmas.Bool.Decides.{nat_tests}
-use Rattle.tm_onig_class.specs.Widths.{least_width}
-use Rattle.tm_onig_search.specs.Widths.{greatest_width}
+use Rattle.tm_onig_search.specs.Widths.{least_width, greatest_width}
 use Rattle.tm_onig_search.specs.Search.{width_or}
 use Rattle.tm_onig_search.proofs.Reading.{begins_within}
 use Rattle.tm_onig_search.proofs.Ends.{accept_ends, tree_ends}

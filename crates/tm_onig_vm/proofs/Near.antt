@@ -6,8 +6,7 @@ use Rattle.std.proofs.Math.ListN.{drop_of_length-le}
 use Rattle.std.proofs.lemmas.List.{length-drop}
 use Rattle.tm_onig_class.specs.declared.patterns.Pattern.{Pattern}
 use Rattle.tm_onig_class.specs.Tree.{Trees, More, tree_of, trees}
-use Rattle.tm_onig_class.specs.Widths.{least_width, widths_sum, widths_least}
-use Rattle.tm_onig_search.specs.Widths.{both_widths, greatest_width, greatest_sum, greatest_of}
+use Rattle.tm_onig_search.specs.Widths.{least_width, widths_sum, widths_least, both_widths, width_times, greatest_width, greatest_sum, greatest_of}
 use Rattle.tm_onig_search.specs.Find.{last_group, last_group_of}
 use Rattle.tm_onig_vm.specs.Near.{near}
 use Rattle.tm_onig_vm.proofs.Pushed.{parts_at, no_parts}
@@ -25,10 +24,16 @@ pub near_product : (n w : ℕ) → near (n * near w) ≡ near (n * w)
 near_product zero w = omega arith
 near_product (suc n) w = let before = near_product n w in omega arith
 
-pub greatest_times : (n w : Option ℕ) → both_widths (λ a b. near (a * b)) n (option_map near w) ≡ option_map near (both_widths (λ a b. a * b) n w)
+pub greatest_times : (n w : Option ℕ) → option_map near (width_times n (option_map near w)) ≡ option_map near (width_times n w)
 greatest_times (Some n) (Some w) = ap Some (near_product n w)
 greatest_times (Some n) None = refl
-greatest_times None w = refl
+greatest_times None (Some zero) = refl
+greatest_times None (Some (suc w)) = go (near (suc w)) (omega arith)
+  where
+    go : (v : ℕ) → 0 < v → option_map near (width_times None (Some v)) ≡ None
+    go zero none = absurd (omega arith)
+    go (suc v) some = refl
+greatest_times None None = refl
 
 greatest_plus : (v w : Option ℕ) → both_widths (λ a b. near (a + b)) (option_map near v) (option_map near w) ≡ option_map near (both_widths (λ a b. a + b) v w)
 greatest_plus (Some v) (Some w) = ap Some (near_sum v w)

@@ -1,8 +1,7 @@
 -- The code of a tree.
 use Rattle.std.specs.Prelude.{◌≡◌, ℕ, ◌+◌, length, Bool, true, false, List, [], ◌∷◌, Some, slice_get, option_map}
 use Rattle.tm_onig_class.specs.Tree.{Tree, Empty, Char, Any, InSet, Cat, Alt, Group, Atomic, Repeat, Look, Back, Holds, Trees, NoTrees, More}
-use Rattle.tm_onig_class.specs.Widths.{least_width}
-use Rattle.tm_onig_search.specs.Widths.{greatest_width}
+use Rattle.tm_onig_search.specs.Widths.{least_width, greatest_width}
 use Rattle.tm_onig_search.specs.Find.{last_group}
 use Rattle.tm_onig_vm.specs.declared.code.Instr.{Instr}
 use Rattle.tm_onig_vm.specs.declared.code.Instr.TheVariants as I

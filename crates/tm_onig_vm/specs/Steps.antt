@@ -1,10 +1,9 @@
 -- What one step of a branch of the plain search leaves.
 use Rattle.std.specs.Prelude.{◌≡◌, ℕ, ◌≤◌, Bool, true, false, List, length, if◌then◌else◌}
 use Rattle.tm_onig_class.specs.Tree.{tree_of}
-use Rattle.tm_onig_class.specs.Widths.{least_width}
 use Rattle.tm_onig_search.specs.Outcomes.{Caps, Hit, Outcome, Rest, tick, spend, or_else, accept, and_then, unless}
 use Rattle.tm_onig_search.specs.Places.{Subject}
-use Rattle.tm_onig_search.specs.Widths.{greatest_width}
+use Rattle.tm_onig_search.specs.Widths.{least_width, greatest_width}
 use Rattle.tm_onig_search.specs.Search.{at_goal, look_back, search_tree}
 use Rattle.tm_onig_vm.specs.Goals.{goals_rest, any_of, AllWithin, Enters}
 use Rattle.tm_onig_vm.specs.declared.goals.Branch.{Branch}

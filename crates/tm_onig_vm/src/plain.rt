@@ -4,8 +4,7 @@
 //! definition's program: tests compare the compiled search with it.
 ghost use Rattle.std.specs.Prelude.{◌≡◌, ℕ, List, Option, true, false, suc, ◌+◌, ◌^◌, ◌<◌, ◌≤◌, min, replicate, None, length, option_map, OnOk, IfOk, IfSome, IsErrOf};
 ghost use Rattle.tm_onig_class.specs.Tree.{tree_of};
-ghost use Rattle.tm_onig_class.specs.Widths.{least_width};
-ghost use Rattle.tm_onig_search.specs.Widths.{greatest_width};
+ghost use Rattle.tm_onig_search.specs.Widths.{least_width, greatest_width};
 ghost use Rattle.tm_onig_search.specs.Outcomes.{Rest, tick, accept};
 ghost use Rattle.tm_onig_search.specs.Places.{Subject};
 ghost use Rattle.tm_onig_search.specs.Search.{at_goal, look_back, width_or, search_tree};

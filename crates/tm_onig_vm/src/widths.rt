@@ -3,8 +3,7 @@
 //! Widths are counted up to 2^31, which no position in a line reaches.
 ghost use Rattle.std.specs.Prelude.{◌≡◌, ℕ, ◌+◌, ◌*◌, ◌≤◌, min, max, map, option_map};
 ghost use Rattle.tm_onig_class.specs.Tree.{tree_of, trees};
-ghost use Rattle.tm_onig_class.specs.Widths.{least_width, widths_sum, widths_least};
-ghost use Rattle.tm_onig_search.specs.Widths.{both_widths, greatest_width, greatest_sum, greatest_of};
+ghost use Rattle.tm_onig_search.specs.Widths.{least_width, widths_sum, widths_least, both_widths, width_times, greatest_width, greatest_sum, greatest_of};
 ghost use Rattle.tm_onig_search.specs.Find.{last_group, last_group_of};
 ghost use Rattle.tm_onig_vm.specs.Near.{near};
 
@@ -28,7 +27,7 @@ fn product(times: u32, width: u64) -> u64
 
 /// The least number of characters that the pattern can match.
 #[cycle(least)]
-#[tactic(auto, using(tm_onig_class::proofs::Trees::nodes), unfolding(tm_onig_class::specs::Widths::least_width))]
+#[tactic(auto, using(tm_onig_class::proofs::Trees::nodes), unfolding(tm_onig_search::specs::Widths::least_width))]
 pub(crate) fn least(pattern: &Pattern) -> u64
     ensures { result ≡ near (least_width (tree_of pattern.now)) }
 {
@@ -105,10 +104,11 @@ pub(crate) fn greatest(pattern: &Pattern) -> Option<u64>
 }
 
 fn greatest_product(times: Option<u32>, width: Option<u64>) -> Option<u64>
-    ensures { result ≡ both_widths (λ a b. near (a * b)) times width }
+    ensures { result ≡ option_map near (width_times times width) }
 {
     match (times, width) {
         (Some(n), Some(w)) => Some(product(n, w)),
+        (Some(0), None) | (None, Some(0)) => Some(0),
         _ => None,
     }
 }

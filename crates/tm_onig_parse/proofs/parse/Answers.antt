@@ -2,7 +2,7 @@ use Rattle.std.proofs.Common.{ℕ, List, Option, subst}
 use Rattle.tm_onig_class.specs.Tree.{Tree, tree_of}
 use Rattle.tm_onig_parse.specs.Reading.{parsed}
 use Rattle.tm_onig_parse.specs.Views.{Gives}
-use Rattle.tm_onig_parse.proofs.Laws.{parsed_only, found_in, numbered_in}
+use Rattle.tm_onig_parse.proofs.Laws.{parsed_only, found_in, numbered_in, ordered_in}
 use Rattle.tm_onig_parse.proofs.parse.Goals as goal
 
 read_text : (c : goal.After-read) → Gives tree_of c.read.result (parsed c.args.text.now)
@@ -16,6 +16,9 @@ returns-clause-only c alts spells = subst (λ (o : Option Tree). Gives tree_of c
 
 pub returns-clause-numbered : goal.returns-clause-numbered
 returns-clause-numbered c = numbered_in c.args.text.now c.read.result (read_text c)
+
+pub returns-clause-ordered : goal.returns-clause-ordered
+returns-clause-ordered c = ordered_in c.args.text.now c.read.result (read_text c)
 
 pub returns-clause-read : goal.returns-clause-read
 returns-clause-read c = read_text c

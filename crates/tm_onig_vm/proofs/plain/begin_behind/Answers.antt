@@ -1,7 +1,6 @@
 use Rattle.std.proofs.Common.{◌≡◌, ◌-◌, ◌+◌, ◌≤◌, length, arith}
 use Rattle.tm_onig_class.specs.Tree.{tree_of}
-use Rattle.tm_onig_class.specs.Widths.{least_width}
-use Rattle.tm_onig_search.specs.Widths.{greatest_width}
+use Rattle.tm_onig_search.specs.Widths.{least_width, greatest_width}
 use Rattle.tm_onig_search.specs.Outcomes.{accept}
 use Rattle.tm_onig_search.specs.Search.{at_goal, search_tree}
 use Rattle.tm_onig_vm.proofs.Behind.{tried_none, tried_more, back_some, back_none, none_left}

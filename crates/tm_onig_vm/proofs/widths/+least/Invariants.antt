@@ -1,6 +1,6 @@
 use Rattle.std.proofs.Common.{◌≡◌, map, drop}
 use Rattle.tm_onig_class.specs.Tree.{tree_of, trees}
-use Rattle.tm_onig_class.specs.Widths.{widths_sum, widths_least}
+use Rattle.tm_onig_search.specs.Widths.{widths_sum, widths_least}
 use Rattle.tm_onig_vm.specs.Near.{near}
 use Rattle.tm_onig_vm.proofs.widths.+least.Given as goal
 
