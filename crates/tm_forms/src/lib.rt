@@ -5,8 +5,6 @@
 //! reader that answers exactly this.
 #![tactic(auto)]
 
-#[cfg(test)]
-mod cases;
 mod checks;
 mod edits;
 pub mod form;
@@ -16,7 +14,6 @@ mod kinds;
 mod paths;
 pub mod script;
 pub mod settings;
-#[cfg(test)]
-mod tests;
 pub mod text;
+mod threads;
 mod utf8;

@@ -1,8 +1,6 @@
 //! Grammar files as raw trees.
 #![tactic(auto)]
 
-#[cfg(test)]
-mod cases;
 pub mod fault;
 pub mod grammar;
 pub mod laws;
@@ -10,8 +8,6 @@ mod numbers;
 mod paths;
 pub mod raw;
 mod shapes;
-#[cfg(test)]
-mod tests;
 mod tree;
 mod values;
 mod wrong;

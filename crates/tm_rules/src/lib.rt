@@ -2,8 +2,6 @@
 #![tactic(auto)]
 
 pub mod candidate;
-#[cfg(test)]
-mod cases;
 mod flow;
 pub mod grammars;
 mod includes;
@@ -16,6 +14,4 @@ mod parts;
 pub mod rule;
 pub mod rules;
 mod sizes;
-#[cfg(test)]
-mod tests;
 mod walk;
