@@ -11,7 +11,6 @@ pub mod form;
 pub mod grammar;
 mod json;
 mod kinds;
-mod paths;
 pub mod script;
 pub mod settings;
 pub mod text;

@@ -5,7 +5,7 @@ pub mod fault;
 pub mod grammar;
 pub mod laws;
 mod numbers;
-mod paths;
+pub mod paths;
 pub mod raw;
 mod shapes;
 mod tree;
