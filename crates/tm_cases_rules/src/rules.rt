@@ -6,12 +6,12 @@ ghost use Rattle.tm_rules.specs.Rules.{plain_rules};
 use crate::printed::{push_name, push_number, push_text};
 use std::alloc::{AllocError, Global};
 use tm_cases::CaseFault;
+use tm_defs::rules::{Captures, Numbers, Rule};
 use tm_defs::texts::Name;
 use tm_grammar::fault::JsonFault;
 use tm_grammar::grammar::RawGrammar;
 use tm_rules::candidate::Candidate;
 use tm_rules::grammars::{Grammars, RulesFault};
-use tm_rules::rule::{Captures, Numbers, Rule};
 use tm_rules::rules::Rules;
 
 /// The word that stands for a key of a path.

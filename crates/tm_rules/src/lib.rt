@@ -11,7 +11,6 @@ mod load;
 mod loaded;
 mod made;
 mod parts;
-pub mod rule;
 pub mod rules;
 mod sizes;
 mod walk;
