@@ -6,7 +6,7 @@ use Rattle.tm_grammar.specs.File.{GrammarTree}
 use Rattle.tm_line.specs.Setting.{Setting, setting_with}
 use Rattle.tm_rules.specs.Rules.{loaded_from, rules_from}
 use Rattle.tm_rules.specs.Sizes.{rule_limit}
-use Rattle.tm_rules.specs.declared.rule.Rule.{Rule}
+use Rattle.tm_defs.specs.declared.rules.Rule.{Rule}
 use Rattle.tm_template.specs.Names.{words_of}
 
 -- the rules of grammars by number, the root grammar first

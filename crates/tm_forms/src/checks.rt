@@ -7,11 +7,12 @@ ghost use Rattle.serde_json.specs.View.{view, items_view, members_view};
 ghost use Rattle.serde_json.specs.Find.{as_str, as_null};
 ghost use Rattle.tm_forms.specs.Checks.{itself_unless, wrong_text, wrong_text_or_null, wrong_object, wrong_number, is_within, wrong_at, absent_at, wrong_item, wrong_list, wrong_member, wrong_map};
 
-use crate::{edits, json, paths};
+use crate::{edits, json};
 use serde_json::{Map, Value};
 use std::alloc::Global;
 use tm_defs::memory::OutOfMemory;
 use tm_defs::texts::Name;
+use tm_grammar::paths;
 
 /// What a value ought to be.
 pub trait Check {
@@ -109,7 +110,7 @@ pub fn absent_at(alloc: Global, key: &str, value: &Value) -> Result<Option<Name>
     if json::has(value, key) {
         return Ok(None);
     }
-    Ok(Some(Name::new(paths::key_step(alloc, key)?)))
+    Ok(Some(Name::new(paths::with_key(alloc, &[], key)?)))
 }
 
 fn wrong_item<C: Check>(alloc: Global, items: &[Value]) -> Result<Option<Name>, OutOfMemory>

@@ -5,18 +5,14 @@
 //! reader that answers exactly this.
 #![tactic(auto)]
 
-#[cfg(test)]
-mod cases;
 mod checks;
 mod edits;
 pub mod form;
 pub mod grammar;
 mod json;
 mod kinds;
-mod paths;
 pub mod script;
 pub mod settings;
-#[cfg(test)]
-mod tests;
 pub mod text;
+mod threads;
 mod utf8;

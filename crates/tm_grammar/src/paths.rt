@@ -63,3 +63,21 @@ pub fn with_place(alloc: Global, path: &[char], place: usize) -> Result<Vec<char
     }
     Ok(longer)
 }
+
+/// A path inside the member of a key, behind the step to the member.
+pub fn below_key(alloc: Global, key: &str, inside: &Name) -> Result<Name, OutOfMemory>
+    ensures { IfOk result (λ path. path ≡ key_step key.now ++ inside.now) }
+{
+    let mut path = with_key(alloc, &[], key)?;
+    path.extend_from_slice(inside.as_slice())?;
+    Ok(Name::new(path))
+}
+
+/// A path inside the item at a place, behind the step to the item.
+pub fn below_place(alloc: Global, place: usize, inside: &Name) -> Result<Name, OutOfMemory>
+    ensures { IfOk result (λ path. path ≡ place_step place ++ inside.now) }
+{
+    let mut path = with_place(alloc, &[], place)?;
+    path.extend_from_slice(inside.as_slice())?;
+    Ok(Name::new(path))
+}

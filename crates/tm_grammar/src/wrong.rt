@@ -3,9 +3,8 @@
 //! It goes down a value that `serde_json` has read, which nests at most 127 deep. A path is put
 //! together on the way back, once a wrong value is found: in `{"patterns": [{"match": 3}]}` the walk
 //! goes from the empty path over `/match` and `/0/match` to `/patterns/0/match`.
-ghost use Rattle.std.specs.Prelude.{◌≡◌, ◌++◌, IfOk};
+ghost use Rattle.std.specs.Prelude.{◌≡◌, IfOk};
 ghost use Rattle.serde_json.specs.View.{view, items_view, members_view};
-ghost use Rattle.tm_grammar.specs.Paths.{key_step, place_step};
 ghost use Rattle.tm_grammar.specs.Wrong.{is_ignored, first_wrong, wrong_item, wrong_member, absent_scope, wrong_in};
 
 use crate::paths;
@@ -22,24 +21,6 @@ fn is_ignored(shape: Shape) -> bool
         Shape::Ignored => true,
         _ => false,
     }
-}
-
-/// A path inside the member of a key, behind the step to the member.
-fn below_key(alloc: Global, key: &str, inside: &Name) -> Result<Name, OutOfMemory>
-    ensures { IfOk result (λ path. path ≡ key_step key.now ++ inside.now) }
-{
-    let mut path = paths::with_key(alloc, &[], key)?;
-    path.extend_from_slice(inside.as_slice())?;
-    Ok(Name::new(path))
-}
-
-/// A path inside the item at a place, behind the step to the item.
-fn below_place(alloc: Global, place: usize, inside: &Name) -> Result<Name, OutOfMemory>
-    ensures { IfOk result (λ path. path ≡ place_step place ++ inside.now) }
-{
-    let mut path = paths::with_place(alloc, &[], place)?;
-    path.extend_from_slice(inside.as_slice())?;
-    Ok(Name::new(path))
 }
 
 /// The path from a value to the first wrong one in it, perhaps itself.
@@ -67,7 +48,7 @@ fn wrong_item(alloc: Global, shape: Shape, items: &Vec<Value>) -> Result<Option<
     for (place, item) in items.iter().enumerate() {
         let found = first_wrong(alloc, shapes::item_shape(shape, place), item)?;
         if let Some(inside) = found {
-            return Ok(Some(below_place(alloc, place, &inside)?));
+            return Ok(Some(paths::below_place(alloc, place, &inside)?));
         }
     }
     Ok(None)
@@ -84,7 +65,7 @@ fn wrong_member(
     for (key, member) in members.iter() {
         let found = first_wrong(alloc, shapes::member_shape(shape, key.as_str()), member)?;
         if let Some(inside) = found {
-            return Ok(Some(below_key(alloc, key.as_str(), &inside)?));
+            return Ok(Some(paths::below_key(alloc, key.as_str(), &inside)?));
         }
     }
     Ok(None)

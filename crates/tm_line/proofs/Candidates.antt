@@ -7,7 +7,7 @@ use Rattle.tm_onig_scan.specs.Winner.{parsed_if}
 use Rattle.tm_onig_vm.specs.declared.fault.FindFault.{FindFault}
 use Rattle.tm_rules.specs.Candidates.{flattened_candidates}
 use Rattle.tm_rules.specs.declared.candidate.Candidate.TheVariants.{Start, End}
-use Rattle.tm_rules.specs.declared.rule.Rule.{Rule}
+use Rattle.tm_defs.specs.declared.rules.Rule.{Rule}
 use Rattle.tm_line.specs.Insides.{with_end_if, IsInside}
 use Rattle.tm_line.specs.Search.{Candidate, candidate_of, candidates_in, end_text, searches_cost, start_text, tried}
 use Rattle.tm_line.specs.Searched.{starts_of, end_with}

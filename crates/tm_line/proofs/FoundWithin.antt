@@ -9,8 +9,8 @@ use Rattle.tm_onig_search.proofs.Least.{within}
 use Rattle.tm_onig_scan.specs.Winner.{start_of, earlier, found, winner_from, earliest_winner}
 use Rattle.tm_line_run.specs.Laws.{IsWinnerWithin, FindsWithin}
 use Rattle.tm_line_run.proofs.Turns.{both}
-use Rattle.tm_rules.specs.declared.rule.Rule.{Rule}
-use Rattle.tm_rules.specs.declared.rule.Rule.TheVariants as R
+use Rattle.tm_defs.specs.declared.rules.Rule.{Rule}
+use Rattle.tm_defs.specs.declared.rules.Rule.TheVariants as R
 use Rattle.tm_line.specs.declared.found.Found.{Found}
 use Rattle.tm_line.specs.Search.{Candidate, patterns_in, started_by, end_of, found_as, earliest, candidates_in}
 use Rattle.tm_line.specs.Grammar.{started, of_candidate, of_found, rules_grammar}
@@ -67,8 +67,8 @@ module _ (text : List ℕ) (at : ℕ) (allow_a allow_g : Bool) where
   module _ (rules : List Rule) where
     started-within : (f : Found) (n : ℕ) (r : Option Rule) → slice_get rules n ≡ r → f.end ≤ length text → IsWinnerWithin (length rules) (length text) (started f n r)
     started-within f n (Some (R.Match grammar path name content_name match_text captures)) e h = h
-    started-within f n (Some (R.BeginEnd grammar path name content_name begin end_text end_last begin_captures end_captures patterns)) e h = (h, slice_get_within rules n _ e)
-    started-within f n (Some (R.BeginWhile grammar path name content_name begin while_text begin_captures while_captures patterns)) e h = (h, slice_get_within rules n _ e)
+    started-within f n (Some (R.BeginEnd grammar path name content_name patterns begin end_text end_last begin_captures end_captures)) e h = (h, slice_get_within rules n _ e)
+    started-within f n (Some (R.BeginWhile grammar path name content_name patterns begin while_text begin_captures while_captures)) e h = (h, slice_get_within rules n _ e)
     started-within f n (Some (R.Only grammar path name content_name patterns)) e h = tt
     started-within f n None e h = tt
 

@@ -2,11 +2,12 @@
 use Rattle.std.proofs.Common.{◌≡◌, ℕ, zero, suc, ◌+◌, ◌++◌, Bool, true, false, List, [], ◌∷◌, length, length-append, map, flat_map, Some, Option, refl, ap, sym, ◌∙◌, arith, ◌⊎◌, inl, inr, ⊎_elim, append-nil, subst}
 use Rattle.std.specs.Prelude.{slice_get}
 use Rattle.std.proofs.lemmas.List.{map-append}
-use Rattle.tm_rules.specs.Candidates.{is_only, patterns_of, contributed, unopened, flattened, flattened_candidates, start_unless, unless_open, with_end}
+use Rattle.tm_rules.specs.Candidates.{contributed, unopened, flattened, flattened_candidates, start_unless, unless_open, with_end}
+use Rattle.tm_rules.specs.Readers.{is_only, patterns_of}
 use Rattle.tm_rules.specs.declared.candidate.Candidate.{Candidate}
 use Rattle.tm_rules.specs.declared.candidate.Candidate.TheVariants.{Start, End}
-use Rattle.tm_rules.specs.declared.rule.Rule.{Rule}
-use Rattle.tm_rules.specs.declared.rule.Rule.TheVariants as R
+use Rattle.tm_defs.specs.declared.rules.Rule.{Rule}
+use Rattle.tm_defs.specs.declared.rules.Rule.TheVariants as R
 use Rattle.tm_line.specs.Insides.{numbers_in, end_last_of, with_end_if, IsInside, AreInsides}
 use Rattle.tm_line.specs.declared.inside.Inside.{Inside}
 
@@ -61,12 +62,12 @@ module _ (rules : List Rule) where
     where
       is_in : cs ≡ [] → AreStarts cs
       is_in f = rw f refl
-  inside-listed n (R.BeginEnd grammar path name content_name begin end_text end_last begin_captures end_captures patterns) cs at e =
+  inside-listed n (R.BeginEnd grammar path name content_name patterns begin end_text end_last begin_captures end_captures) cs at e =
       is_in (e ∙ rw at refl)
     where
       is_in : cs ≡ with_end end_last (flat_map (flattened rules []) patterns) → cs ≡ with_end end_last (map Start (numbers_in cs))
       is_in f = f ∙ inside-with_end end_last (flat_map (flattened rules []) patterns) (starts-flattened patterns) ∙ ap (λ l. with_end end_last (map Start (numbers_in l))) (sym f)
-  inside-listed n (R.BeginWhile grammar path name content_name begin while_text begin_captures while_captures patterns) cs at e =
+  inside-listed n (R.BeginWhile grammar path name content_name patterns begin while_text begin_captures while_captures) cs at e =
       subst AreStarts (sym (e ∙ rw at refl)) (starts-flattened patterns)
   inside-listed n (R.Only grammar path name content_name patterns) cs at e =
       subst AreStarts (sym (e ∙ rw at refl)) (starts-contributed (unopened rules []) [] n)

@@ -16,7 +16,7 @@ use Rattle.tm_line_run.specs.Painted.{painted, furthest, meta_at, runs_of}
 use Rattle.tm_line_run.specs.declared.painter.Painted.{Painted}
 use Rattle.tm_line_run.proofs.Reach.{line_run-reach}
 use Rattle.tm_line_run.proofs.Runs.{runs-painted}
-use Rattle.tm_rules.specs.declared.rule.Rule.{Rule}
+use Rattle.tm_defs.specs.declared.rules.Rule.{Rule}
 use Rattle.tm_line.specs.Grammar.{rules_grammar}
 use Rattle.tm_meta.specs.Metadata.{metadata_of}
 use Rattle.tm_line.specs.Ran.{Ran, Tokenizes}

@@ -21,8 +21,8 @@ use Rattle.tm_line_run.specs.LineRun.{Place, Grammar, Turn, Stops, GoesOn, stack
 use Rattle.tm_line_run.specs.Painted.{painted}
 use Rattle.tm_line_run.specs.declared.painter.Painted.{Painted}
 use Rattle.tm_line_run.proofs.Turns.{both}
-use Rattle.tm_rules.specs.declared.rule.Rule.{Rule}
-use Rattle.tm_rules.specs.declared.rule.Rule.TheVariants as R
+use Rattle.tm_defs.specs.declared.rules.Rule.{Rule}
+use Rattle.tm_defs.specs.declared.rules.Rule.TheVariants as R
 use Rattle.tm_line.specs.declared.found.Found.{Found}
 use Rattle.tm_line.specs.declared.turn.Here.{Here}
 use Rattle.tm_line.specs.declared.turn.Next.{Next}
@@ -275,9 +275,9 @@ module _ (rules : List Rule) (text : List ℕ) where
   turn_of-is : (p : Place) (f : Found) (n : ℕ) (r : Option Rule) → slice_get rules n ≡ r → turn_of text p f n r ≡ by_winner g p (started f n r)
   turn_of-is p f n (Some (R.Match grammar path name content_name match_text captures)) e =
       ap (λ r. matched (length text) p (match_of f) (scopes_of text (match_of f) (name_in r))) (sym e)
-  turn_of-is p f n (Some (R.BeginEnd grammar path name content_name begin end_text end_last begin_captures end_captures patterns)) e =
+  turn_of-is p f n (Some (R.BeginEnd grammar path name content_name patterns begin end_text end_last begin_captures end_captures)) e =
       ap (λ r. begun (length text) p n (match_of f) (end_made_of text (match_of f) (own_end r)) (scopes_of text (match_of f) (name_in r)) (scopes_of text (match_of f) (content_name_in r))) (sym e)
-  turn_of-is p f n (Some (R.BeginWhile grammar path name content_name begin while_text begin_captures while_captures patterns)) e =
+  turn_of-is p f n (Some (R.BeginWhile grammar path name content_name patterns begin while_text begin_captures while_captures)) e =
       ap (λ r. begun (length text) p n (match_of f) (end_made_of text (match_of f) (own_end r)) (scopes_of text (match_of f) (name_in r)) (scopes_of text (match_of f) (content_name_in r))) (sym e)
   turn_of-is p f n (Some (R.Only grammar path name content_name patterns)) e = refl
   turn_of-is p f n None e = refl

@@ -2,8 +2,9 @@
 use Rattle.std.specs.Prelude.{ℕ, List, [], length, Option, Some, None, slice_get, if◌then◌else◌}
 use Rattle.tm_line_run.specs.LineRun as line
 use Rattle.tm_line_run.specs.LineRun.{Winner, Nothing, Ends, Begins, Matches, Grammar}
-use Rattle.tm_rules.specs.declared.rule.Rule.{Rule}
-use Rattle.tm_rules.specs.declared.rule.Rule.TheVariants as R
+use Rattle.tm_defs.specs.declared.rules.Rule.{Rule}
+use Rattle.tm_defs.specs.declared.rules.Rule.TheVariants as R
+pub use Rattle.tm_rules.specs.Readers.{name_in, content_name_in}
 use Rattle.tm_template.specs.Ends.{has_reference, resolved}
 use Rattle.tm_template.specs.Names as template
 use Rattle.tm_line.specs.declared.found.Found.{Found}
@@ -15,8 +16,8 @@ match_of f = record { start = f.start; end = f.end; groups = f.caps }
 -- a match rule matches, and a rule with a begin begins
 abbrev pub started : Found → ℕ → Option Rule → Winner
 started f n (Some (R.Match grammar path name content_name match_text captures)) = Matches n (match_of f)
-started f n (Some (R.BeginEnd grammar path name content_name begin end_text end_last begin_captures end_captures patterns)) = Begins n (match_of f)
-started f n (Some (R.BeginWhile grammar path name content_name begin while_text begin_captures while_captures patterns)) = Begins n (match_of f)
+started f n (Some (R.BeginEnd grammar path name content_name patterns begin end_text end_last begin_captures end_captures)) = Begins n (match_of f)
+started f n (Some (R.BeginWhile grammar path name content_name patterns begin while_text begin_captures while_captures)) = Begins n (match_of f)
 started f n (Some (R.Only grammar path name content_name patterns)) = Nothing
 started f n None = Nothing
 
@@ -27,18 +28,6 @@ of_candidate rules f (Some n) = started f n (slice_get rules n)
 abbrev pub of_found : List Rule → Option Found → Winner
 of_found rules None = Nothing
 of_found rules (Some f) = of_candidate rules f f.candidate
-
--- the name of a rule, and that of what is inside it
-abbrev pub name_in : Option Rule → Option (List ℕ)
-name_in (Some (R.Match grammar path name content_name match_text captures)) = name
-name_in (Some (R.BeginEnd grammar path name content_name begin end_text end_last begin_captures end_captures patterns)) = name
-name_in (Some (R.BeginWhile grammar path name content_name begin while_text begin_captures while_captures patterns)) = name
-name_in rule = None
-
-abbrev pub content_name_in : Option Rule → Option (List ℕ)
-content_name_in (Some (R.BeginEnd grammar path name content_name begin end_text end_last begin_captures end_captures patterns)) = content_name
-content_name_in (Some (R.BeginWhile grammar path name content_name begin while_text begin_captures while_captures patterns)) = content_name
-content_name_in rule = None
 
 -- the scopes of a name over a match, with what its groups captured
 abbrev pub scopes_of : List ℕ → line.Match → Option (List ℕ) → List (List ℕ)

@@ -2,11 +2,12 @@
 use Rattle.std.specs.Prelude.{◌≡◌, ℕ, List, [], ◌∷◌, length, map, Bool, Option, Some, None, slice_get}
 use Rattle.tm_onig_class.specs.Tree.{Tree}
 use Rattle.tm_onig_scan.specs.Winner.{parsed_if}
-use Rattle.tm_rules.specs.Candidates.{flattened_candidates, with_end}
+use Rattle.tm_rules.specs.Candidates.{flattened_candidates}
+pub use Rattle.tm_rules.specs.Candidates.{with_end_if}
+use Rattle.tm_rules.specs.Readers.{end_last_in}
 use Rattle.tm_rules.specs.declared.candidate.Candidate.{Candidate}
 use Rattle.tm_rules.specs.declared.candidate.Candidate.TheVariants.{Start, End}
-use Rattle.tm_rules.specs.declared.rule.Rule.{Rule}
-use Rattle.tm_rules.specs.declared.rule.Rule.TheVariants as R
+use Rattle.tm_defs.specs.declared.rules.Rule.{Rule}
 use Rattle.tm_line.specs.Search.{start_text, own_end}
 use Rattle.tm_line.specs.declared.inside.Inside.{Inside}
 
@@ -18,13 +19,7 @@ numbers_in (End ∷ cs) = numbers_in cs
 
 -- whether the end of a rule is tried last, if it has one
 abbrev pub end_last_of : Rule → Option Bool
-end_last_of (R.BeginEnd grammar path name content_name begin end_text end_last begin_captures end_captures patterns) = Some end_last
-end_last_of rule = None
-
--- candidates with an end among them, which stands last or first, or with none
-abbrev pub with_end_if : Option Bool → List Candidate → List Candidate
-with_end_if None cs = cs
-with_end_if (Some last) cs = with_end last cs
+end_last_of rule = end_last_in (Some rule)
 
 -- the starts inside this rule by number, and whether its end is tried last, if it has one
 abbrev pub IsInside : List Rule → ℕ → Inside → Type 0

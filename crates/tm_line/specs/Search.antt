@@ -7,8 +7,8 @@ use Rattle.tm_onig_scan.specs.Winner.{start_of, parsed_if, earliest_winner, scan
 use Rattle.tm_rules.specs.Candidates.{flattened_candidates}
 use Rattle.tm_rules.specs.declared.candidate.Candidate as code
 use Rattle.tm_rules.specs.declared.candidate.Candidate.TheVariants.{Start, End}
-use Rattle.tm_rules.specs.declared.rule.Rule.{Rule}
-use Rattle.tm_rules.specs.declared.rule.Rule.TheVariants as R
+use Rattle.tm_defs.specs.declared.rules.Rule.{Rule}
+pub use Rattle.tm_rules.specs.Readers.{start_text, own_end}
 use Rattle.tm_line.specs.declared.found.Found.{Found}
 
 -- a pattern that is searched, and the rule that it starts; the end of the open rule starts none
@@ -46,18 +46,6 @@ earliest text at allow_a allow_g cs =
 -- the steps of the searches of all candidates of a list
 abbrev pub searches_cost : List ℕ → ℕ → Bool → Bool → List Candidate → ℕ
 searches_cost text at allow_a allow_g cs = scan_cost text at allow_a allow_g (patterns_in cs)
-
--- the text of the pattern that starts a rule; a list of rules has none
-abbrev pub start_text : Option Rule → Option (List ℕ)
-start_text (Some (R.Match grammar path name content_name match_text captures)) = Some match_text
-start_text (Some (R.BeginEnd grammar path name content_name begin end_text end_last begin_captures end_captures patterns)) = Some begin
-start_text (Some (R.BeginWhile grammar path name content_name begin while_text begin_captures while_captures patterns)) = Some begin
-start_text rule = None
-
--- the text of the pattern that ends it, as it stands in the grammar
-abbrev pub own_end : Option Rule → Option (List ℕ)
-own_end (Some (R.BeginEnd grammar path name content_name begin end_text end_last begin_captures end_captures patterns)) = end_text
-own_end rule = None
 
 -- an open rule ends with the text that was made for it at its begin, or else with that of its grammar
 abbrev pub end_text : Option Rule → Option (List ℕ) → Option (List ℕ)

@@ -2,7 +2,7 @@
 use Rattle.std.specs.Prelude.{◌≡◌, ℕ, ◌+◌, ◌<◌, ◌≤◌, List, [], ◌∷◌, map, slice_get, Bool, true, false, Option, Some, None, nat_lt, if◌then◌else◌, Result, IfOk, IsErrOf}
 use Rattle.tm_onig_scan.specs.Winner.{parsed_if}
 use Rattle.tm_onig_vm.specs.declared.fault.FindFault.{FindFault}
-use Rattle.tm_rules.specs.declared.rule.Rule.{Rule}
+use Rattle.tm_defs.specs.declared.rules.Rule.{Rule}
 use Rattle.tm_line.specs.declared.found.Found.{Found}
 use Rattle.tm_line.specs.Search.{Candidate, candidate_of, start_text}
 

@@ -2,7 +2,7 @@
 use Rattle.std.specs.Prelude.{ℕ, List}
 use Rattle.tm_rules.specs.Rules.{plain_rules}
 use Rattle.tm_rules.specs.declared.grammars.Grammars.{Grammars}
-use Rattle.tm_rules.specs.declared.rule.Rule.{Rule}
+use Rattle.tm_defs.specs.declared.rules.Rule.{Rule}
 use Rattle.tm_template.specs.Names.{words_of}
 
 -- the scopes of every token, and the rules of all grammars by number; rule 0 is the root

@@ -13,8 +13,8 @@ use Rattle.tm_line.specs.Searched.{Spends}
 use Rattle.tm_line_run.specs.LineRun.{Place, Part, Turn, Stops, GoesOn, stack_of, is_entered, near, has, rests, ended, begun, matched}
 use Rattle.tm_line_run.specs.Painted.{painted}
 use Rattle.tm_line_run.specs.declared.painter.Painted.{Painted}
-use Rattle.tm_rules.specs.declared.rule.Rule.{Rule}
-use Rattle.tm_rules.specs.declared.rule.Rule.TheVariants as R
+use Rattle.tm_defs.specs.declared.rules.Rule.{Rule}
+use Rattle.tm_defs.specs.declared.rules.Rule.TheVariants as R
 use Rattle.tm_line.specs.declared.found.Found.{Found}
 use Rattle.tm_line_run.specs.LineRun as line
 use Rattle.tm_line.specs.declared.way.Entry as code
@@ -128,9 +128,9 @@ of_search find.OutOfMemory = fault.OutOfMemory
 abbrev pub turn_of : List ℕ → Place → Found → ℕ → Option Rule → Turn
 turn_of text p f n (Some (R.Match grammar path name content_name match_text captures)) =
     matched (length text) p (match_of f) (scopes_of text (match_of f) name)
-turn_of text p f n (Some (R.BeginEnd grammar path name content_name begin end_text end_last begin_captures end_captures patterns)) =
+turn_of text p f n (Some (R.BeginEnd grammar path name content_name patterns begin end_text end_last begin_captures end_captures)) =
     begun (length text) p n (match_of f) (end_made_of text (match_of f) end_text) (scopes_of text (match_of f) name) (scopes_of text (match_of f) content_name)
-turn_of text p f n (Some (R.BeginWhile grammar path name content_name begin while_text begin_captures while_captures patterns)) =
+turn_of text p f n (Some (R.BeginWhile grammar path name content_name patterns begin while_text begin_captures while_captures)) =
     begun (length text) p n (match_of f) None (scopes_of text (match_of f) name) (scopes_of text (match_of f) content_name)
 turn_of text p f n (Some (R.Only grammar path name content_name patterns)) = rests (length text) p
 turn_of text p f n None = rests (length text) p

@@ -4,8 +4,8 @@ ghost use Rattle.tm_line.specs.Insides.{AreInsides, IsInside, end_last_of, numbe
 
 use std::alloc::Global;
 use tm_defs::memory::OutOfMemory;
+use tm_defs::rules::Rule;
 use tm_rules::candidate::Candidate;
-use tm_rules::rule::Rule;
 use tm_rules::rules::Rules;
 
 /// The numbers of the rules whose starts are searched while a rule is open, in their order, and whether

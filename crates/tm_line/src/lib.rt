@@ -20,7 +20,7 @@
 
 ghost use Rattle.std.specs.Prelude.{◌≡◌, ℕ, true, false, List};
 ghost use Rattle.tm_line_run.specs.Laws.{IsLineRun};
-ghost use Rattle.tm_rules.specs.declared.rule.Rule.{Rule};
+ghost use Rattle.tm_defs.specs.declared.rules.Rule.{Rule};
 ghost use Rattle.tm_line.specs.Example.{candidates, rule_at, text};
 ghost use Rattle.tm_line.specs.Grammar.{rules_grammar};
 ghost use Rattle.tm_line.specs.Search.{earliest, searches_cost};

@@ -9,9 +9,9 @@ use crate::inside::{Inside, insides_of};
 use std::alloc::Global;
 use std::marker::Model;
 use tm_defs::memory::OutOfMemory;
+use tm_defs::rules::Rule;
 use tm_defs::texts::Name;
 use tm_onig_scan::Scanner;
-use tm_rules::rule::Rule;
 use tm_rules::rules::Rules;
 
 /// The rules by number, the patterns that start them and those that end them, each at its rule's number,
@@ -28,7 +28,7 @@ impl Model for Patterns {
     ghost use Rattle.std.specs.Prelude.{List};
     ghost use Rattle.tm_onig_scan.specs.Winner.{trees_of};
     ghost use Rattle.tm_line.specs.Insides.{AreInsides, AreRead};
-    ghost use Rattle.tm_rules.specs.declared.rule.Rule.{Rule};
+    ghost use Rattle.tm_defs.specs.declared.rules.Rule.{Rule};
 
     ghost Value = { List Rule };
 

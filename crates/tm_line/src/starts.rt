@@ -13,10 +13,10 @@ use crate::turn::{Here, Next, matches, rest};
 use crate::way::Way;
 use std::alloc::Global;
 use tm_defs::memory::OutOfMemory;
+use tm_defs::rules::Rule;
 use tm_defs::tables::{States, TableFault};
 use tm_defs::texts::{Line, Name};
 use tm_line_run::painter::Painted;
-use tm_rules::rule::Rule;
 
 /// What a rule with these keys gives where it begins.
 fn given_by(

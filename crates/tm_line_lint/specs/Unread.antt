@@ -1,10 +1,10 @@
 -- Which patterns of rules are unreadable.
-use Rattle.std.specs.Prelude.{ℕ, List, [], ◌∷◌, ◌++◌, chars, codes, Option, Some, None}
+use Rattle.std.specs.Prelude.{ℕ, List, [], ◌∷◌, ◌++◌, chars, codes, Option, Some, None, option_map}
 use Rattle.tm_onig_class.specs.Tree.{Tree}
 use Rattle.tm_onig_parse.specs.Reading.{parsed}
 use Rattle.tm_template.specs.Ends.{resolved}
-use Rattle.tm_rules.specs.declared.rule.Rule.{Rule}
-use Rattle.tm_rules.specs.declared.rule.Rule.TheVariants as R
+use Rattle.tm_defs.specs.declared.rules.Rule.{Rule}
+use Rattle.tm_rules.specs.Readers.{grammar_in, path_in, own_match, own_begin, own_end, own_while}
 use Rattle.tm_line_lint.specs.declared.Unread.{Unread}
 
 -- the pattern of this key of a file, unless its text has a tree
@@ -20,15 +20,14 @@ key_path rule key = rule ++ chars key
 abbrev pub tried : List ℕ → List ℕ
 tried text = resolved text [] []
 
-abbrev pub unread_end : List ℕ → List ℕ → Option (List ℕ) → List Unread
-unread_end grammar path None = []
-unread_end grammar path (Some text) = unread_if grammar (key_path path (codes "/end")) (parsed (tried text))
+-- the same where there is a text
+abbrev pub unread_at : List ℕ → List ℕ → List ℕ → Option (List ℕ) → List Unread
+unread_at grammar rule key None = []
+unread_at grammar rule key (Some text) = unread_if grammar (key_path rule key) (parsed text)
 
--- the unreadable patterns of a rule, its begin first
+-- the unreadable patterns of a rule, in the order begin, end, match, while
 abbrev pub unread_in : Rule → List Unread
-unread_in (R.Match grammar path name content_name match captures) = unread_if grammar (key_path path (codes "/match")) (parsed match)
-unread_in (R.BeginEnd grammar path name content_name begin end_text end_last begin_captures end_captures patterns) =
-    unread_if grammar (key_path path (codes "/begin")) (parsed begin) ++ unread_end grammar path end_text
-unread_in (R.BeginWhile grammar path name content_name begin while_text begin_captures while_captures patterns) =
-    unread_if grammar (key_path path (codes "/begin")) (parsed begin) ++ unread_if grammar (key_path path (codes "/while")) (parsed (tried while_text))
-unread_in (R.Only grammar path name content_name patterns) = []
+unread_in rule =
+    let at = unread_at (grammar_in rule) (path_in rule) in
+    at (codes "/begin") (own_begin (Some rule)) ++ (at (codes "/end") (option_map tried (own_end (Some rule)))
+    ++ (at (codes "/match") (own_match (Some rule)) ++ at (codes "/while") (option_map tried (own_while (Some rule)))))

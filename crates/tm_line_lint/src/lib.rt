@@ -9,8 +9,6 @@
 ghost use Rattle.std.specs.Prelude.{◌≡◌, flat_map, IfOk};
 ghost use Rattle.tm_line_lint.specs.Unread.{unread_in};
 
-#[cfg(test)]
-mod tests;
 mod texts;
 
 use std::alloc::Global;

@@ -1,17 +1,17 @@
 //! The texts of a rule's patterns, each tried as a pattern.
-ghost use Rattle.std.specs.Prelude.{◌≡◌, ◌++◌, chars, codes, IfOk, OnOk};
+ghost use Rattle.std.specs.Prelude.{◌≡◌, ◌++◌, chars, codes, option_map, IfOk, OnOk};
 ghost use Rattle.std.specs.Option.{is_none};
 ghost use Rattle.tm_onig_parse.specs.Reading.{parsed};
-ghost use Rattle.tm_line_lint.specs.Unread.{key_path, unread_if, unread_in, unread_end, tried};
+ghost use Rattle.tm_line_lint.specs.Unread.{key_path, unread_at, unread_if, unread_in, tried};
 
 use crate::Unread;
 use smallvec::SmallVec;
 use std::alloc::Global;
 use tm_defs::caps::Caps;
 use tm_defs::memory::OutOfMemory;
+use tm_defs::rules::Rule;
 use tm_defs::texts::{Line, Name};
 use tm_onig_parse::{ParseFault, parse};
-use tm_rules::rule::Rule;
 use tm_template::ends::resolve;
 
 /// Whether a text is no pattern.
@@ -94,7 +94,7 @@ fn look_at_both(
     end: &Option<Name>,
 ) -> Result<(), OutOfMemory>
     ensures { OnOk result (found.new.items ≡
-        found.old.items ++ (unread_if grammar.now (key_path rule.now (codes "/begin")) (parsed begin.now) ++ unread_end grammar.now rule.now end.now)) }
+        found.old.items ++ (unread_if grammar.now (key_path rule.now (codes "/begin")) (parsed begin.now) ++ unread_at grammar.now rule.now (codes "/end") (option_map tried end.now))) }
 {
     look(alloc, found, grammar, rule, "/begin", begin)?;
     match end {

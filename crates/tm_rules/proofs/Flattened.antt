@@ -1,11 +1,12 @@
 -- The definition of what a rule contributes, as equations without a depth.
 use Rattle.std.proofs.Common.{◌≡◌, ℕ, zero, suc, Bool, true, false, List, [], ◌∷◌, ◌++◌, flat_map, slice_get, get_or, length, take, ◌<◌, Some, refl, ap, sym, ◌∙◌, subst, arith}
 use Rattle.std.proofs.lemmas.Option.{slice_get_read}
-use Rattle.tm_rules.specs.Candidates.{is_only, patterns_of, is_among, unopened, contributed, flattened, flattened_candidates, included_candidates, start_unless, listed}
+use Rattle.tm_rules.specs.Candidates.{is_among, unopened, contributed, flattened, flattened_candidates, included_candidates, start_unless, listed}
+use Rattle.tm_rules.specs.Readers.{is_only, patterns_of}
 use Rattle.tm_rules.specs.Lists.{AreLists}
 use Rattle.tm_rules.specs.declared.candidate.Candidate.{Candidate}
 use Rattle.tm_rules.specs.declared.candidate.Candidate.TheVariants.{Start}
-use Rattle.tm_rules.specs.declared.rule.Rule.{Rule}
+use Rattle.tm_defs.specs.declared.rules.Rule.{Rule}
 use Rattle.tm_rules.proofs.Unopened.{unopened-opened}
 
 module _ (rules : List Rule) (opened : List ℕ) (n : ℕ) where

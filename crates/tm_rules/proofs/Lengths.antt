@@ -8,7 +8,7 @@ use Rattle.tm_rules.specs.Sizes.{is_include, has_patterns, inside_size, captures
 use Rattle.tm_rules.specs.Tree.{Tree, Node, Captures, NoCaptures, Capture, Items, NoItems, Item, Names, NoNames, Named, tree_of, names_of}
 use Rattle.tm_rules.specs.declared.grammars.Grammars.{Grammars}
 use Rattle.tm_rules.specs.declared.loaded.Loaded.{Loaded}
-use Rattle.tm_rules.specs.declared.rule.Rule.{Rule}
+use Rattle.tm_defs.specs.declared.rules.Rule.{Rule}
 
 own_length : (own : Bool) (r : Rule) → length (if own then r ∷ [] else []) ≡ (if own then 1 else 0)
 own_length true r = refl

@@ -4,12 +4,13 @@ use Rattle.std.specs.Prelude.{slice_set}
 use Rattle.std.proofs.lemmas.List.{append-nil, reverse-append, get_or-set_same, get_or-set_other}
 use Rattle.std.proofs.Math.ListN.{length-set}
 use Rattle.std.proofs.lemmas.Bool.Decides.{eqb_tells}
-use Rattle.tm_rules.specs.Candidates.{is_only, patterns_of, is_among, flattened}
+use Rattle.tm_rules.specs.Candidates.{is_among, flattened}
+use Rattle.tm_rules.specs.Readers.{is_only, patterns_of}
 use Rattle.tm_rules.specs.Tasks.{opened_by, tasks_left, stacked, AreMarked}
 use Rattle.tm_rules.specs.declared.candidate.Candidate.{Candidate}
 use Rattle.tm_rules.specs.declared.flow.Task.{Task}
 use Rattle.tm_rules.specs.declared.flow.Task.TheVariants.{Visit, Close}
-use Rattle.tm_rules.specs.declared.rule.Rule.{Rule}
+use Rattle.tm_defs.specs.declared.rules.Rule.{Rule}
 use Rattle.tm_rules.proofs.Flattened.{flattened-open, flattened-only}
 use Rattle.tm_rules.proofs.Unopened.{apart-eq, same-eq}
 

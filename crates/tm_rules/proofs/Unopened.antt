@@ -4,8 +4,9 @@ use Rattle.std.specs.Prelude.{None, nat_eq, if◌then◌else◌}
 use Rattle.std.proofs.lemmas.Bool.{eq-eqb}
 use Rattle.std.proofs.lemmas.Bool.Decides.{eqb_tells, nat_tests}
 use Rattle.std.proofs.lemmas.Option.{slice_get_within}
-use Rattle.tm_rules.specs.Candidates.{is_only, is_among, unopened_below, unopened}
-use Rattle.tm_rules.specs.declared.rule.Rule.{Rule}
+use Rattle.tm_rules.specs.Candidates.{is_among, unopened_below, unopened}
+use Rattle.tm_rules.specs.Readers.{is_only}
+use Rattle.tm_defs.specs.declared.rules.Rule.{Rule}
 
 pub apart-eq : (m n : ℕ) → (m ≢ n) → nat_eq m n ≡ false
 apart-eq m n h = grind (arith, nat_tests)

@@ -10,7 +10,7 @@ use Rattle.tm_rules.specs.Tree.{tree_of, names_of}
 use Rattle.tm_rules.specs.Walk.{rules_in_parts}
 use Rattle.tm_rules.specs.declared.loaded.Loaded.{Loaded}
 use Rattle.tm_rules.specs.declared.sizes.FirstNumbers.{FirstNumbers}
-use Rattle.tm_rules.specs.declared.rule.Rule.{Rule}
+use Rattle.tm_defs.specs.declared.rules.Rule.{Rule}
 use Rattle.tm_rules.proofs.Opened.{tree_of_out}
 
 -- the repositories inside it

@@ -1,21 +1,10 @@
 -- The candidates of rules, flattened.
-use Rattle.std.specs.Prelude.{ℕ, zero, suc, ◌+◌, List, [], ◌∷◌, ◌++◌, length, Bool, true, false, not, ◌&&◌, ◌||◌, nat_eq, Option, Some, flat_map, slice_get, if◌then◌else◌}
+use Rattle.std.specs.Prelude.{ℕ, zero, suc, ◌+◌, List, [], ◌∷◌, ◌++◌, length, Bool, true, false, not, ◌&&◌, ◌||◌, nat_eq, Option, Some, None, flat_map, slice_get, if◌then◌else◌}
 use Rattle.std.specs.List.{list_any}
 use Rattle.tm_rules.specs.declared.candidate.Candidate.{Candidate}
 use Rattle.tm_rules.specs.declared.candidate.Candidate.TheVariants.{Start, End}
-use Rattle.tm_rules.specs.declared.rule.Rule.{Rule}
-use Rattle.tm_rules.specs.declared.rule.Rule.TheVariants as R
-
--- an include-only rule; a number without a rule is none
-abbrev pub is_only : Option Rule → Bool
-is_only (Some (R.Only grammar path name content_name patterns)) = true
-is_only rule = false
-
-abbrev pub patterns_of : Option Rule → List ℕ
-patterns_of (Some (R.Only grammar path name content_name patterns)) = patterns
-patterns_of (Some (R.BeginEnd grammar path name content_name begin end_text end_last begin_captures end_captures patterns)) = patterns
-patterns_of (Some (R.BeginWhile grammar path name content_name begin while_text begin_captures while_captures patterns)) = patterns
-patterns_of rule = []
+use Rattle.tm_defs.specs.declared.rules.Rule.{Rule}
+use Rattle.tm_rules.specs.Readers.{is_only, patterns_of, end_last_in}
 
 -- whether the number is in the list
 abbrev pub is_among : ℕ → List ℕ → Bool
@@ -35,6 +24,11 @@ start_unless false n = Start n ∷ []
 abbrev pub with_end : Bool → List Candidate → List Candidate
 with_end true cs = cs ++ End ∷ []
 with_end false cs = End ∷ cs
+
+-- the same where there is one
+abbrev pub with_end_if : Option Bool → List Candidate → List Candidate
+with_end_if None cs = cs
+with_end_if (Some last) cs = with_end last cs
 
 module _ (rules : List Rule) where
   -- how many of the include-only rules below this number are not open
@@ -65,10 +59,7 @@ module _ (rules : List Rule) where
   -- A begin/end rule's own candidates are those of its patterns with its end first, or last by its flag; those of other
   -- rules are those of their patterns. A match rule has none, and an include-only rule is itself being flattened.
   abbrev pub own_candidates : ℕ → Option Rule → List Candidate
-  own_candidates n (Some (R.BeginEnd grammar path name content_name begin end_text end_last begin_captures end_captures patterns)) = with_end end_last (flat_map (flattened []) patterns)
-  own_candidates n (Some (R.BeginWhile grammar path name content_name begin while_text begin_captures while_captures patterns)) = flat_map (flattened []) patterns
-  own_candidates n (Some (R.Only grammar path name content_name patterns)) = flattened [] n
-  own_candidates n rule = []
+  own_candidates n rule = if is_only rule then flattened [] n else with_end_if (end_last_in rule) (flat_map (flattened []) (patterns_of rule))
 
   -- the candidates of the rule with this number
   abbrev pub flattened_candidates : ℕ → List Candidate

@@ -3,7 +3,7 @@ use Rattle.std.specs.Prelude.{◌≡◌, List}
 use Rattle.tm_rules.specs.Tasks.{opened_by, stacked, AreMarked}
 use Rattle.tm_rules.specs.declared.flow.Task.{Task}
 use Rattle.tm_rules.specs.declared.flow.Flow.{Flow}
-use Rattle.tm_rules.specs.declared.rule.Rule.{Rule}
+use Rattle.tm_defs.specs.declared.rules.Rule.{Rule}
 
 -- its tasks, the next one first
 abbrev pub tasks_of : Flow → List Task

@@ -1,13 +1,14 @@
 -- What makes the definitions believable: the flattening without its depth, and numbers that are places.
 use Rattle.std.specs.Prelude.{◌≡◌, ℕ, List, [], ◌∷◌, length, true, false, flat_map, slice_get}
-use Rattle.tm_rules.specs.Candidates.{is_only, is_among, patterns_of, flattened}
+use Rattle.tm_rules.specs.Candidates.{is_among, flattened}
+use Rattle.tm_rules.specs.Readers.{is_only, patterns_of}
 use Rattle.tm_rules.specs.Includes.{Entries}
 use Rattle.tm_rules.specs.Rules.{rules_inside, rules_in_captures, rules_in_items, rules_in_names}
 use Rattle.tm_rules.specs.Sizes.{inside_size, captures_size, items_size, names_size}
 use Rattle.tm_rules.specs.Tree.{Tree, Captures, Items, Names}
 use Rattle.tm_rules.specs.declared.candidate.Candidate.TheVariants.{Start}
 use Rattle.tm_rules.specs.declared.loaded.Loaded.{Loaded}
-use Rattle.tm_rules.specs.declared.rule.Rule.{Rule}
+use Rattle.tm_defs.specs.declared.rules.Rule.{Rule}
 
 -- a match or begin rule contributes its start
 abbrev pub StartsContribute : Type 0

@@ -2,6 +2,7 @@ pub mod Tree
 pub mod Sizes
 pub mod Keyed
 pub mod Includes
+pub mod Readers
 pub mod Rules
 pub mod Candidates
 pub mod Walk

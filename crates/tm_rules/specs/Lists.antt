@@ -3,7 +3,7 @@ use Rattle.std.specs.Prelude.{◌≡◌, ℕ, ◌<◌, ◌≤◌, List, length, 
 use Rattle.tm_rules.specs.Candidates.{listed}
 use Rattle.tm_rules.specs.Sizes.{rule_limit}
 use Rattle.tm_rules.specs.declared.candidate.Candidate.{Candidate}
-use Rattle.tm_rules.specs.declared.rule.Rule.{Rule}
+use Rattle.tm_defs.specs.declared.rules.Rule.{Rule}
 
 -- there is one for each rule
 pub record AreLists (rules : List Rule) (lists : List (List Candidate)) : Type 0 where

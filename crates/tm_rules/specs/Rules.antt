@@ -9,9 +9,9 @@ use Rattle.tm_rules.specs.Includes.{Entries, entries, included_rule}
 use Rattle.tm_rules.specs.declared.loaded.Loaded.{Loaded}
 use Rattle.tm_rules.specs.declared.grammars.Grammars.{Grammars}
 use Rattle.tm_rules.specs.declared.sizes.FirstNumbers.{FirstNumbers}
-use Rattle.tm_rules.specs.declared.rule.Capture.{Capture as RuleCapture}
-use Rattle.tm_rules.specs.declared.rule.Rule.{Rule}
-use Rattle.tm_rules.specs.declared.rule.Rule.TheVariants as R
+use Rattle.tm_defs.specs.declared.rules.Capture.{Capture as RuleCapture}
+use Rattle.tm_defs.specs.declared.rules.Rule.{Rule}
+use Rattle.tm_defs.specs.declared.rules.Rule.TheVariants as R
 
 -- The number of the first rule in each part of a rule, where all that is inside it is numbered from n on.
 abbrev pub firsts : ℕ → Tree → FirstNumbers
@@ -51,8 +51,8 @@ pub record Parts : Type 0 where
 abbrev pub rule_by : List ℕ → Keys → Parts → Option (List ℕ) → Option (List ℕ) → Option (List ℕ) → Rule
 rule_by scope k p (Some match) begin while = R.Match scope k.path k.name k.content_name match p.captures
 rule_by scope k p None None while = R.Only scope k.path k.name k.content_name p.patterns
-rule_by scope k p None (Some begin) (Some while) = R.BeginWhile scope k.path k.name k.content_name begin while p.begin_captures p.while_captures p.patterns
-rule_by scope k p None (Some begin) None = R.BeginEnd scope k.path k.name k.content_name begin (filled k.end_text) k.end_last p.begin_captures p.end_captures p.patterns
+rule_by scope k p None (Some begin) (Some while) = R.BeginWhile scope k.path k.name k.content_name p.patterns begin while p.begin_captures p.while_captures
+rule_by scope k p None (Some begin) None = R.BeginEnd scope k.path k.name k.content_name p.patterns begin (filled k.end_text) k.end_last p.begin_captures p.end_captures
 
 module _ (loaded : List Loaded) (grammar : Loaded) where
   -- what an include names, where it is there

@@ -5,7 +5,7 @@ use Rattle.tm_rules.specs.declared.candidate.Candidate.{Candidate}
 use Rattle.tm_rules.specs.declared.candidate.Candidate.TheVariants.{Start}
 use Rattle.tm_rules.specs.declared.flow.Task.{Task}
 use Rattle.tm_rules.specs.declared.flow.Task.TheVariants.{Visit, Close}
-use Rattle.tm_rules.specs.declared.rule.Rule.{Rule}
+use Rattle.tm_defs.specs.declared.rules.Rule.{Rule}
 
 -- the rules that are open, the innermost first: those that are still to be closed
 abbrev pub opened_by : List Task → List ℕ

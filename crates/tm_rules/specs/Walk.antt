@@ -7,7 +7,7 @@ use Rattle.tm_rules.specs.Includes.{Entries}
 use Rattle.tm_rules.specs.Rules.{rules_in_captures, rules_in_items, rules_in_names}
 use Rattle.tm_rules.specs.declared.loaded.Loaded.{Loaded}
 use Rattle.tm_rules.specs.declared.sizes.FirstNumbers.{FirstNumbers}
-use Rattle.tm_rules.specs.declared.rule.Rule.{Rule}
+use Rattle.tm_defs.specs.declared.rules.Rule.{Rule}
 
 -- those of each part, in the order of the walk
 abbrev pub rules_in_parts : List Loaded → Loaded → List Entries → FirstNumbers → RawRule-F RawRule → List Rule

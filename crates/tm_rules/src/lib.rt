@@ -2,8 +2,6 @@
 #![tactic(auto)]
 
 pub mod candidate;
-#[cfg(test)]
-mod cases;
 mod flow;
 pub mod grammars;
 mod includes;
@@ -13,9 +11,6 @@ mod load;
 mod loaded;
 mod made;
 mod parts;
-pub mod rule;
 pub mod rules;
 mod sizes;
-#[cfg(test)]
-mod tests;
 mod walk;

@@ -12,10 +12,10 @@ ghost use Rattle.tm_rules.specs.Tasks.{tasks_left};
 
 use crate::candidate::Candidate;
 use crate::flow::Flow;
-use crate::rule::Rule;
 use sqlite_items::Items;
 use std::alloc::Global;
 use tm_defs::memory::OutOfMemory;
+use tm_defs::rules::Rule;
 
 /// All lists together have no more candidates, and so take no more than 32 megabytes.
 const CANDIDATE_LIMIT: u32 = 4_194_304;

@@ -6,10 +6,10 @@ ghost use Rattle.tm_rules.specs.Tree.{keys_of, tree_of, captures_of_if};
 use crate::includes::Home;
 use crate::loaded::Repository;
 use crate::parts::{captures_from, copy_filled, copy_if, patterns_of};
-use crate::rule::{Captures, Rule};
 use crate::sizes::{FirstNumbers, filled};
 use std::alloc::Global;
 use tm_defs::memory::OutOfMemory;
+use tm_defs::rules::{Captures, Rule};
 use tm_defs::texts::Name;
 use tm_grammar::raw::{RawCaptures, RawRule};
 

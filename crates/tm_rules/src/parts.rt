@@ -11,11 +11,11 @@ ghost use Rattle.tm_grammar.specs.declared.raw.RawRule.TheViews.{out-RawRule};
 
 use crate::includes::{Home, included_rule};
 use crate::loaded::Repository;
-use crate::rule::{Capture, Captures, Numbers};
 use crate::sizes::{self, filled};
 use std::alloc::Global;
 use std::collections::BTreeMap;
 use tm_defs::memory::OutOfMemory;
+use tm_defs::rules::{Capture, Captures, Numbers};
 use tm_defs::texts::Name;
 use tm_grammar::raw::{RawCaptures, RawRule};
 

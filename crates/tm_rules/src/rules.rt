@@ -7,13 +7,13 @@ ghost use Rattle.tm_rules.specs.declared.grammars.RulesFault.TheVariants as faul
 
 use crate::candidate::Candidate;
 use crate::grammars::{Grammars, RulesFault};
-use crate::rule::Rule;
 use crate::sizes::RULE_LIMIT;
 use crate::{lists, load, walk};
 use sqlite_items::Items;
 use std::alloc::Global;
 use std::marker::Model;
 use tm_defs::memory::OutOfMemory;
+use tm_defs::rules::Rule;
 
 /// The rules of grammars by number. Contracts see the list of the rules.
 #[derive(Drop)]
@@ -26,7 +26,7 @@ pub struct Rules {
 impl Model for Rules {
     ghost use Rattle.std.specs.Prelude.{List};
     ghost use Rattle.tm_rules.specs.Lists.{AreLists};
-    ghost use Rattle.tm_rules.specs.declared.rule.Rule.{Rule};
+    ghost use Rattle.tm_defs.specs.declared.rules.Rule.{Rule};
 
     ghost Value = { List Rule };
 

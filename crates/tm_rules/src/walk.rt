@@ -12,11 +12,11 @@ ghost use Rattle.tm_rules.specs.Tree.{tree_of, captures_of_if, items_of_if, name
 
 use crate::includes::Home;
 use crate::loaded::{self, Loaded, Repository};
-use crate::rule::Rule;
 use crate::sizes::{self, FirstNumbers};
 use crate::{load, made};
 use std::alloc::Global;
 use tm_defs::memory::OutOfMemory;
+use tm_defs::rules::Rule;
 use tm_defs::texts::Name;
 use tm_grammar::grammar::RawGrammar;
 use tm_grammar::raw::{RawCaptures, RawList, RawRule};

@@ -1,7 +1,7 @@
 use Rattle.std.proofs.Common.{◌≡◌, List, [], ◌++◌, map, drop, ap, sym, ◌∙◌}
 use Rattle.std.proofs.lemmas.List.{append-nil, drop_all}
 use Rattle.tm_rules.specs.Rules.{rules_from}
-use Rattle.tm_rules.specs.declared.rule.Rule.{Rule}
+use Rattle.tm_defs.specs.declared.rules.Rule.{Rule}
 use Rattle.tm_rules.proofs.Walked.{rules_from-none}
 use Rattle.tm_rules.proofs.walk.rules_of.Goals as goal
 

@@ -1,6 +1,6 @@
 use Rattle.std.proofs.Common.{Some, ap}
-use Rattle.tm_rules.specs.Candidates.{is_only}
-use Rattle.tm_rules.specs.declared.rule.Rule.{Rule}
+use Rattle.tm_rules.specs.Readers.{is_only}
+use Rattle.tm_defs.specs.declared.rules.Rule.{Rule}
 use Rattle.tm_rules.proofs.Flattened.{included-read}
 use Rattle.tm_rules.proofs.rules.Rules.included.Goals as goal
 

@@ -1,36 +1,18 @@
+//! Grammars as their rules by number.
 ghost use Rattle.std.specs.Prelude.{◌≡◌, length, IfOk, IfSome};
 ghost use Rattle.tm_rules.specs.Candidates.{flattened_candidates};
 ghost use Rattle.tm_rules.specs.Rules.{plain_rules};
 
-use crate::candidate::Candidate;
-use crate::cases;
-use crate::grammars::{Grammars, RulesFault};
-use crate::rule::{Captures, Numbers, Rule};
-use crate::rules::Rules;
+use crate::printed::{push_name, push_number, push_text};
 use std::alloc::{AllocError, Global};
-use std::test::Fail;
+use tm_cases::CaseFault;
+use tm_defs::rules::{Captures, Numbers, Rule};
 use tm_defs::texts::Name;
 use tm_grammar::fault::JsonFault;
 use tm_grammar::grammar::RawGrammar;
-
-fn push_name(text: &mut String, name: &Name) -> Result<(), AllocError> {
-    for c in name.as_slice() {
-        text.push(*c)?;
-    }
-    Ok(())
-}
-
-fn push_text(text: &mut String, word: &str, value: &Option<Name>) -> Result<(), AllocError> {
-    if let Some(value) = value {
-        text.push_str(word)?;
-        push_name(text, value)?;
-    }
-    Ok(())
-}
-
-fn push_number(alloc: Global, text: &mut String, number: u32) -> Result<(), AllocError> {
-    text.push_str(format!(in alloc; "{number}")?.as_str())
-}
+use tm_rules::candidate::Candidate;
+use tm_rules::grammars::{Grammars, RulesFault};
+use tm_rules::rules::Rules;
 
 /// The word that stands for a key of a path.
 fn short_key(key: &str) -> &str {
@@ -227,7 +209,7 @@ fn push_rule(alloc: Global, text: &mut String, rule: &Rule) -> Result<(), AllocE
 }
 
 /// All rules in one line.
-fn shown(alloc: Global, rules: &Rules) -> Result<String, Fail> {
+fn shown(alloc: Global, rules: &Rules) -> Result<String, AllocError> {
     let mut text = String::new(alloc);
     for number in 0..rules.len() {
         if number > 0 {
@@ -244,20 +226,20 @@ fn shown(alloc: Global, rules: &Rules) -> Result<String, Fail> {
     Ok(text)
 }
 
-fn read(alloc: Global, file: &str) -> Result<RawGrammar, Fail> {
+fn read(alloc: Global, file: &str) -> Result<RawGrammar, CaseFault> {
     match RawGrammar::from_slice(alloc, file.as_bytes()) {
         Ok(grammar) => Ok(grammar),
-        Err(JsonFault::OutOfMemory) => Err(Fail::from(AllocError)),
-        Err(_) => Err(Fail::from(AllocError)),
+        Err(JsonFault::OutOfMemory) => Err(CaseFault::OutOfMemory),
+        Err(_) => Err(CaseFault::NoField),
     }
 }
 
-/// The grammars of a line.
-fn grammars_of(alloc: Global, line: &str) -> Result<Grammars, Fail> {
+/// The root grammar, further ones behind ` ++ ` and injected ones behind ` ** `.
+fn grammars_of(alloc: Global, files: &str) -> Result<Grammars, CaseFault> {
     let mut more = Vec::new(alloc);
     let mut injected = Vec::new(alloc);
     let mut root = read(alloc, "{\"scopeName\":\"\"}")?;
-    for (place, file) in line.split(" ++ ").enumerate() {
+    for (place, file) in files.split(" ++ ").enumerate() {
         for (inner, part) in file.split(" ** ").enumerate() {
             let grammar = read(alloc, part)?;
             if inner > 0 {
@@ -276,96 +258,32 @@ fn grammars_of(alloc: Global, line: &str) -> Result<Grammars, Fail> {
     })
 }
 
-/// What is answered of grammars.
-fn answer(alloc: Global, line: &str) -> Result<String, Fail> {
-    let parts = grammars_of(alloc, line)?;
-    match Rules::build(alloc, &parts) {
-        Ok(rules) => shown(alloc, &rules),
-        Err(RulesFault::TooManyRules) => Ok(String::from_str(alloc, "TooManyRules")?),
-        Err(RulesFault::OutOfMemory) => Ok(String::from_str(alloc, "OutOfMemory")?),
+/// The rules of grammars, where there are not too many.
+pub(crate) fn build(alloc: Global, files: &str) -> Result<Option<Rules>, CaseFault> {
+    match Rules::build(alloc, &grammars_of(alloc, files)?) {
+        Ok(rules) => Ok(Some(rules)),
+        Err(RulesFault::TooManyRules) => Ok(None),
+        Err(RulesFault::OutOfMemory) => Err(CaseFault::OutOfMemory),
     }
 }
 
-/// The lines with another answer than the one that stands behind them.
-fn missed_answers(alloc: Global) -> Result<String, Fail> {
-    let mut missed = String::new(alloc);
-    for line in cases::RULES.lines() {
-        let Some((files, want)) = line.split_once(" => ") else {
-            missed.push_str(line)?;
-            continue;
-        };
-        let found = answer(alloc, files)?;
-        if found.as_str() != want {
-            missed.push_str(format!(in alloc; "{files}: {found}\n")?.as_str())?;
+/// All rules of grammars.
+pub(crate) fn answer(alloc: Global, files: &str) -> Result<String, CaseFault> {
+    match build(alloc, files)? {
+        Some(rules) => Ok(shown(alloc, &rules)?),
+        None => Ok(String::from_str(alloc, "TooManyRules")?),
+    }
+}
+
+/// The number of the root rule.
+pub(crate) fn root(alloc: Global, files: &str) -> Result<String, CaseFault> {
+    match build(alloc, files)? {
+        Some(rules) => {
+            let root = rules.root();
+            Ok(format!(in alloc; "{root}")?)
         }
+        None => Ok(String::from_str(alloc, "TooManyRules")?),
     }
-    Ok(missed)
-}
-
-#[test]
-fn grammars_and_their_rules(rt: HostRuntime) -> Result<(), Fail> {
-    let alloc = rt.alloc();
-    assert_eq!(rt; missed_answers(alloc)?.as_str(), "");
-    Ok(())
-}
-
-/// The grammar that the examples use.
-#[test]
-fn three_rules(rt: HostRuntime) -> Result<(), Fail> {
-    let alloc = rt.alloc();
-    let parts = grammars_of(alloc, cases::THREE_RULES)?;
-    assert!(rt; tries(alloc, &parts, 3) == Ok(Some(1)));
-    assert!(rt; tries(alloc, &parts, 4) == Ok(None));
-    let Ok(rules) = Rules::build(alloc, &parts) else {
-        return Err(Fail::from(AllocError));
-    };
-    assert_eq!(rt; rules.len(), 4);
-    assert_eq!(rt; rules.root(), 0);
-    if rules.len() == 4 {
-        let starts = [
-            Candidate::Start(1),
-            Candidate::Start(2),
-            Candidate::Start(3),
-        ];
-        assert!(rt; rules.candidates(0) == starts.as_slice());
-        assert!(rt; rules.included(1) == [Candidate::Start(1)].as_slice());
-    }
-    Ok(())
-}
-
-/// A front, a part so many times with a comma between, and a back.
-fn repeated(
-    alloc: Global,
-    front: &str,
-    part: &str,
-    times: u32,
-    back: &str,
-) -> Result<String, AllocError> {
-    let mut text = String::from_str(alloc, front)?;
-    for time in 0..times {
-        if time > 0 {
-            text.push(',')?;
-        }
-        text.push_str(part)?;
-    }
-    text.push_str(back)?;
-    Ok(text)
-}
-
-/// Rules of which each includes the next so many times, and the last one is this.
-fn chain(alloc: Global, length: u32, includes: u32, last: &str) -> Result<String, AllocError> {
-    let mut text = String::from_str(
-        alloc,
-        "{\"scopeName\":\"s\",\"patterns\":[{\"include\":\"#r0\"}],\"repository\":{",
-    )?;
-    for number in 0..length {
-        let next = number.saturating_add(1);
-        let part = format!(in alloc; "{{\"include\":\"#r{next}\"}}")?;
-        let front = format!(in alloc; "\"r{number}\":{{\"patterns\":[")?;
-        text.push_str(repeated(alloc, front.as_str(), part.as_str(), includes, "]},")?.as_str())?;
-    }
-    text.push_str(format!(in alloc; "\"r{length}\":{last}}}}}")?.as_str())?;
-    Ok(text)
 }
 
 /// How many candidates are tried for a rule, where there is a rule of this number.
@@ -379,37 +297,26 @@ fn tries(alloc: Global, parts: &Grammars, n: u32) -> Result<Option<usize>, Rules
     }
 }
 
-/// How many rules there are and how many candidates the root rule has, or the refusal.
-fn counts(alloc: Global, file: &str) -> Result<String, Fail> {
-    let parts = grammars_of(alloc, file)?;
-    match Rules::build(alloc, &parts) {
-        Ok(rules) => {
-            let number = rules.len();
-            let mut all = 0;
-            if number > 0 {
-                all = rules.candidates(0).len();
-            }
-            Ok(format!(in alloc; "{number} {all}")?)
-        }
+/// How many candidates are tried for the rule of a number.
+pub(crate) fn tries_of(alloc: Global, number: u64, files: &str) -> Result<String, CaseFault> {
+    let number = u32::try_from(number).or(Err(CaseFault::NoField))?;
+    match tries(alloc, &grammars_of(alloc, files)?, number) {
+        Ok(Some(count)) => Ok(format!(in alloc; "{count}")?),
+        Ok(None) => Ok(String::from_str(alloc, "no rule")?),
         Err(RulesFault::TooManyRules) => Ok(String::from_str(alloc, "TooManyRules")?),
-        Err(RulesFault::OutOfMemory) => Ok(String::from_str(alloc, "OutOfMemory")?),
+        Err(RulesFault::OutOfMemory) => Err(CaseFault::OutOfMemory),
     }
 }
 
-/// The greatest number of rules, lists that double with each include, and a long chain.
-#[test]
-fn limits(rt: HostRuntime) -> Result<(), Fail> {
-    let alloc = rt.alloc();
-    let front = "{\"scopeName\":\"s\",\"patterns\":[";
-    let most = repeated(alloc, front, "{}", 65_534, "]}")?;
-    assert_eq!(rt; counts(alloc, most.as_str())?.as_str(), "65535 0");
-    let more = repeated(alloc, front, "{}", 65_535, "]}")?;
-    assert_eq!(rt; counts(alloc, more.as_str())?.as_str(), "TooManyRules");
-    let doubled = chain(alloc, 10, 2, "{\"match\":\"x\"}")?;
-    assert_eq!(rt; counts(alloc, doubled.as_str())?.as_str(), "12 1024");
-    let hostile = chain(alloc, 30, 2, "{\"match\":\"x\"}")?;
-    assert_eq!(rt; counts(alloc, hostile.as_str())?.as_str(), "OutOfMemory");
-    let long = chain(alloc, 2_000, 1, "{\"match\":\"x\"}")?;
-    assert_eq!(rt; counts(alloc, long.as_str())?.as_str(), "2002 1");
-    Ok(())
+/// How many rules there are and how many candidates the root rule has.
+pub(crate) fn counts(alloc: Global, files: &str) -> Result<String, CaseFault> {
+    let Some(rules) = build(alloc, files)? else {
+        return Ok(String::from_str(alloc, "TooManyRules")?);
+    };
+    let number = rules.len();
+    let mut all = 0;
+    if number > 0 {
+        all = rules.candidates(0).len();
+    }
+    Ok(format!(in alloc; "{number} {all}")?)
 }
