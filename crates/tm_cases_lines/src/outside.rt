@@ -108,12 +108,12 @@ pub fn real(rt: HostRuntime, alloc: Global, case: &Case) -> Result<String, CaseF
     Ok(format!(in alloc; "{first} of {count}; {removed}; {folder}")?)
 }
 
-/// `streams`: writes a line to each stream, and what a write of nothing answers. The line of the first stream stands
-/// before the answer.
+/// `streams`: writes to each stream, and a write of nothing. What is written to the first stream stands before the
+/// answer in its line.
 pub fn streams(rt: HostRuntime, alloc: Global) -> Result<String, CaseFault> {
     let mut out = StdSink::out(rt);
     let mut err = StdSink::err(rt);
-    let first = sink::write_all(&mut out, b"out\n").is_ok();
+    let first = sink::write_all(&mut out, b"out: ").is_ok();
     let second = sink::write_all(&mut err, b"err\n").is_ok();
     let nothing = out.write(b"");
     Ok(String::from_str(
