@@ -1,6 +1,9 @@
 //! Callers of the promises, proved.
 ghost use Rattle.std.specs.Prelude.{◌≡◌, ◌<◌, ◌-◌, ◌^◌, ⊤, [], length, map, string_bytes, IsTrue, IfOk, MatchOption};
+ghost use Rattle.tm_app.specs.Complete.{IsGood};
 ghost use Rattle.tm_app.specs.Outcome.{Outcome};
+ghost use Rattle.tm_app.specs.Setup.{Work};
+ghost use Rattle.tm_cases_lines.specs.Unhindered.{IsFree, IsWhole};
 ghost use Rattle.tm_line.specs.Tokenizing.{rules_tokenized};
 ghost use Rattle.tm_machine.specs.Entries.{IsFromScratch};
 ghost use Rattle.tm_model.specs.Held.{setting_now};
@@ -35,6 +38,20 @@ pub fn is_done<F: Files, S: Sink>(
         Status::Ok => true,
         _ => false,
     }
+}
+
+/// Runs a command. Where its words are a command, all files are told and of their forms, no read and no write failed,
+/// and nothing stands in the way of its work, all of the work is written, or memory was wanted.
+pub fn ends<F: Files, S: Sink>(
+    alloc: Global,
+    words: &Vec<String>,
+    files: &mut F,
+    out: &mut S,
+    err: &mut S,
+) -> Status
+    ensures { (work : Work) → IsGood (map string_bytes words.now.items) (F.bytes files.old) (F.failed files.old) (F.failed files.new) (S.faults out.old) (S.faults out.new) work → IsFree work → IsWhole work (S.taken out.old) (S.taken out.new) result }
+{
+    outcome::run(alloc, words, files, out, err)
 }
 
 /// Does the first line that is not good, and says whether line 0 is then what tokenizing the text from its first

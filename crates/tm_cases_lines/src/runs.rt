@@ -5,7 +5,6 @@ use crate::values::{shown, texts};
 use crate::callers;
 use serde_json::Value;
 use std::alloc::Global;
-use tm_app::outcome;
 use tm_cases::{Case, CaseFault};
 use tm_outside::honest::HonestSink;
 
@@ -25,7 +24,7 @@ fn run_of(
     let mut files = reader(files, failing(alloc, faults, "reads")?);
     let mut out = sink(alloc, failing(alloc, faults, "writes")?);
     let mut err = sink(alloc, failing(alloc, faults, "tells")?);
-    let code = outcome::run(alloc, words, &mut files, &mut out, &mut err).code();
+    let code = callers::ends(alloc, words, &mut files, &mut out, &mut err).code();
     ended(alloc, code, out.bytes(), err.bytes())
 }
 
