@@ -1,5 +1,5 @@
 -- Work in whose way nothing stands is done whole.
-use Rattle.std.proofs.Common.{◌≡◌, ℕ, ◌+◌, List, Option, Bool, true, false, take, drop, refl, ap, sym, ◌∙◌, subst}
+use Rattle.std.proofs.Common.{◌≡◌, ℕ, ◌+◌, ◌++◌, List, Option, Bool, true, false, take, drop, refl, ap, sym, ◌∙◌, subst}
 use Rattle.std.specs.Prelude.{Contains}
 use Rattle.std.proofs.lemmas.List.{take-append-drop}
 use Rattle.tm_defs.specs.declared.events.Step.{Step}
@@ -31,7 +31,7 @@ pub whole : (work : Work) (taken taken_now : Option (List ℕ)) (faults faults_n
 whole work taken taken_now faults faults_now Ok free h = h
 whole work taken taken_now faults faults_now OutOfMemory free h = tt
 whole (Linted settings) taken taken_now faults faults_now BudgetSeen free h = let e : true ≡ false = h.1 in absurd cc
-whole (Played setup) taken taken_now faults faults_now BudgetSeen free h = absurd (free.costs (h.2.2.2.2 refl))
+whole (Played setup) taken taken_now faults faults_now BudgetSeen free h = absurd (free.costs (h.5 refl))
 whole (Linted settings) taken taken_now faults faults_now (Refused name (BadPlace line)) free h = h
 whole (Played setup) taken taken_now faults faults_now (Refused name (BadPlace line)) free h =
     absurd (free.places h.0 h.1.bytes h.1.last h.2.0 line h.1.plays h.2.1 h.2.2)

@@ -95,7 +95,12 @@ pub fn line(alloc: Global, case: &Case) -> Result<String, CaseFault> {
 fn reaches(pieces: &[Painted], len: usize) -> bool
     ensures { IsTrue result → len ≤ furthest pieces.now }
 {
-    pieces.iter().any(|piece| len <= piece.end)
+    for piece in pieces {
+        if len <= piece.end {
+            return true;
+        }
+    }
+    false
 }
 
 /// `runs PIECES, LENGTH, METADATA`: the tokens of painted pieces, each `[END, METADATA]`, over a line of this length.

@@ -2,7 +2,7 @@ use Rattle.std.proofs.Common.{◌≡◌, [], ◌∷◌, ◌++◌, None, List, �
 use Rattle.std.proofs.lemmas.Option.{get_or_from_slice_get}
 use Rattle.tm_defs.specs.declared.tables.TableFault.TheVariants.{TableFull}
 use Rattle.tm_defs.specs.Tables.{IsFullForSome, only_state, path_at, state_at}
-use Rattle.tm_model.proofs.small.SmallLineTok.line.Goals as goal
+use Rattle.tm_cases_lines.proofs.small.SmallLineTok.line.Goals as goal
 
 pub returns-in-Err-TableFull-clause-cause : goal.returns-in-Err-TableFull-clause-cause
 returns-in-Err-TableFull-clause-cause g c =
