@@ -4,11 +4,12 @@ use Rattle.std.specs.Prelude.{Contains}
 use Rattle.std.proofs.lemmas.List.{take-append-drop}
 use Rattle.tm_defs.specs.declared.events.Step.{Step}
 use Rattle.tm_forms.specs.declared.script.Scripted.{Scripted}
-use Rattle.tm_machine.specs.Machine.{Rules, Machine}
+use Rattle.tm_machine.specs.Changes.{lines_of}
+use Rattle.tm_machine.specs.Machine.{Rules, Machine, machine_of}
 use Rattle.tm_machine.specs.Reach.{Stand, stand_in, stands_of, ReachesMoreThan}
 use Rattle.tm_machine.proofs.ReachedTables.{reaches-more, stands-more}
 use Rattle.tm_app.specs.Complete.{Completes}
-use Rattle.tm_app.specs.Outcome.{WorkDone}
+use Rattle.tm_app.specs.Outcome.{grammar_rules}
 use Rattle.tm_app.specs.Play.{machine_steps}
 use Rattle.tm_app.specs.Setup.{Work, Linted, Played}
 use Rattle.tm_app.specs.Stops.{large_reach}
@@ -40,7 +41,7 @@ whole work taken taken_now faults faults_now (Refused name (BadShape path)) free
 whole work taken taken_now faults faults_now (Refused name NotYet) free h = h
 whole work taken taken_now faults faults_now (Refused name TooManyRules) free h = h
 whole (Linted settings) taken taken_now faults faults_now TableFull free h = h
-whole (Played setup) taken taken_now faults faults_now TableFull free h = absurd (free.reach (front-reaches _ _ setup.script (h.0 + 1) h.2))
+whole (Played setup) taken taken_now faults faults_now TableFull free h = absurd (free.reach (front-reaches (grammar_rules setup.settings setup.budget) (machine_of (lines_of setup.text)) setup.script (h.0 + 1) h.2))
 whole work taken taken_now faults faults_now Usage free h = h
 whole work taken taken_now faults faults_now (FileFault name) free h = h
 whole work taken taken_now faults faults_now SinkFault free h = h
