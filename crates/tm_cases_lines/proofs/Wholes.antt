@@ -1,12 +1,11 @@
 -- Work in whose way nothing stands is done whole.
-use Rattle.std.proofs.Common.{◌≡◌, ℕ, ◌+◌, ◌++◌, List, Option, Bool, true, false, take, drop, refl, ap, sym, ◌∙◌, subst}
-use Rattle.std.specs.Prelude.{Contains}
+use Rattle.std.proofs.Common.{◌≡◌, ℕ, ◌+◌, ◌++◌, List, Option, true, false, take, drop, refl, ap, sym, ◌∙◌, subst}
 use Rattle.std.proofs.lemmas.List.{take-append-drop}
 use Rattle.tm_defs.specs.declared.events.Step.{Step}
 use Rattle.tm_forms.specs.declared.script.Scripted.{Scripted}
 use Rattle.tm_machine.specs.Changes.{lines_of}
 use Rattle.tm_machine.specs.Machine.{Rules, Machine, machine_of}
-use Rattle.tm_machine.specs.Reach.{Stand, stand_in, stands_of, ReachesMoreThan}
+use Rattle.tm_machine.specs.Reach.{stand_in, stands_of, ReachesMoreThan}
 use Rattle.tm_machine.proofs.ReachedTables.{reaches-more, stands-more}
 use Rattle.tm_app.specs.Complete.{Completes}
 use Rattle.tm_app.specs.Outcome.{grammar_rules}

@@ -88,7 +88,14 @@ pub fn line(alloc: Global, case: &Case) -> Result<String, CaseFault> {
     if limit == 0 {
         return Err(CaseFault::NoField);
     }
-    line_of::<Brand>(alloc, Blank::new(1), &setting, &line, case.number(2)?, limit)
+    line_of::<Brand>(
+        alloc,
+        Blank::new(1),
+        &setting,
+        &line,
+        case.number(2)?,
+        limit,
+    )
 }
 
 /// Whether something is painted up to this length.

@@ -61,14 +61,18 @@ fn turn_text(alloc: Global, answer: Result<Turn, TableFault>) -> Result<String, 
 
 fn forced_text(alloc: Global, answer: Result<Forced, TableFault>) -> Result<String, CaseFault> {
     match answer {
-        Ok(Forced {
-            done,
-            blocked: None,
-        }) => Ok(format!(in alloc; "work {done}")?),
-        Ok(Forced {
-            done,
-            blocked: Some(line),
-        }) => Ok(format!(in alloc; "work {done} blocked {line}")?),
+        Ok(
+            Forced {
+                done,
+                blocked: None,
+            },
+        ) => Ok(format!(in alloc; "work {done}")?),
+        Ok(
+            Forced {
+                done,
+                blocked: Some(line),
+            },
+        ) => Ok(format!(in alloc; "work {done} blocked {line}")?),
         Err(fault) => full_text(alloc, fault),
     }
 }
@@ -130,7 +134,11 @@ fn accurate_text<T: LineTok>(model: &Model<T>, i: u32) -> Result<&'static str, C
     if i >= model.len() {
         return Err(CaseFault::NoField);
     }
-    Ok(if model.accurate(i) { "accurate" } else { "not accurate" })
+    Ok(if model.accurate(i) {
+        "accurate"
+    } else {
+        "not accurate"
+    })
 }
 
 fn line_text<T: LineTok>(alloc: Global, model: &Model<T>, i: u32) -> Result<String, CaseFault> {
@@ -155,7 +163,11 @@ fn look<T: LineTok>(alloc: Global, model: &Model<T>, act: &Value) -> Result<Stri
 }
 
 /// An answer with the front behind it.
-fn with_front<T: LineTok>(alloc: Global, model: &Model<T>, answer: &str) -> Result<String, CaseFault> {
+fn with_front<T: LineTok>(
+    alloc: Global,
+    model: &Model<T>,
+    answer: &str,
+) -> Result<String, CaseFault> {
     match model.front() {
         Some(front) => Ok(format!(in alloc; "{answer}, front {front}")?),
         None => Ok(format!(in alloc; "{answer}, no front")?),
@@ -244,7 +256,14 @@ pub fn model(alloc: Global, case: &Case) -> Result<String, CaseFault> {
         return Err(CaseFault::NoField);
     }
     let all = list(case.value(3)?)?;
-    acts::<Brand>(alloc, Blank::new(1), text.as_slice(), case.number(1)?, limit, all)
+    acts::<Brand>(
+        alloc,
+        Blank::new(1),
+        text.as_slice(),
+        case.number(1)?,
+        limit,
+        all,
+    )
 }
 
 /// `split TEXT`: its lines, each in brackets.
@@ -268,7 +287,11 @@ fn made_of(alloc: Global, table: &mut Numbering, name: &Name) -> Result<String, 
         Err(fault) => return full_text(alloc, fault),
     };
     table.known();
-    let same = if table.text_of(id).same(name) { "the text" } else { "another text" };
+    let same = if table.text_of(id).same(name) {
+        "the text"
+    } else {
+        "another text"
+    };
     let names = match table.push(ScopeList(0), id) {
         Ok(names) => names,
         Err(fault) => return full_text(alloc, fault),
@@ -284,13 +307,24 @@ fn made_of(alloc: Global, table: &mut Numbering, name: &Name) -> Result<String, 
     };
     let top = match table.top(state) {
         Some((top, rest)) => {
-            let same = if top == frame { "the frame" } else { "another frame" };
+            let same = if top == frame {
+                "the frame"
+            } else {
+                "another frame"
+            };
             format!(in alloc; "{same} on {}", rest.0)?
         }
         None => String::from_str(alloc, "empty")?,
     };
-    let below = if table.top(StateId(0)).is_none() { "empty" } else { "not empty" };
-    Ok(format!(in alloc; "{same}, list {} is {last}, state {} is {top}, state 0 is {below}", names.0, state.0)?)
+    let below = if table.top(StateId(0)).is_none() {
+        "empty"
+    } else {
+        "not empty"
+    };
+    Ok(format!(in alloc;
+        "{same}, list {} is {last}, state {} is {top}, state 0 is {below}",
+        names.0, state.0
+    )?)
 }
 
 /// `numbers LIMIT, TEXTS`: the number of each text in tables that hold up to the limit, and then, of the first text,

@@ -60,7 +60,10 @@ pub fn reads(alloc: Global, case: &Case) -> Result<String, CaseFault> {
 
 /// `writes FRONT, FAILING, PIECES`: what each write answers, with all bytes taken; the sink has taken `FRONT` before.
 pub fn writes(alloc: Global, case: &Case) -> Result<String, CaseFault> {
-    let mut sink = MemSink::new(bytes(alloc, case.text(0)?)?, numbers(alloc, case.value(1)?)?);
+    let mut sink = MemSink::new(
+        bytes(alloc, case.text(0)?)?,
+        numbers(alloc, case.value(1)?)?,
+    );
     let mut told = String::new(alloc);
     for (i, piece) in list(case.value(2)?)?.iter().enumerate() {
         if i != 0 {

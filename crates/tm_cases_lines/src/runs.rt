@@ -1,8 +1,8 @@
 //! Whole runs over files and sinks in memory.
 
+use crate::callers;
 use crate::files::{add, failing, files_of, reader, sink};
 use crate::values::{shown, texts};
-use crate::callers;
 use serde_json::Value;
 use std::alloc::Global;
 use tm_cases::{Case, CaseFault};
@@ -72,7 +72,12 @@ fn letter(meta: &str) -> &str {
 
 /// A printed line as its tokens, each its start and its letter. A line that is not the accurate one of this number
 /// stays as it is.
-fn push_tokens(alloc: Global, text: &mut String, number: usize, line: &str) -> Result<(), CaseFault> {
+fn push_tokens(
+    alloc: Global,
+    text: &mut String,
+    number: usize,
+    line: &str,
+) -> Result<(), CaseFault> {
     let front = format!(in alloc; "= {number} ")?;
     let Some(tokens) = line.strip_prefix(front.as_str()) else {
         text.push_str(line)?;
@@ -107,7 +112,12 @@ fn grammar_files(alloc: Global, patterns: &Value) -> Result<Vec<(String, Vec<u8>
     grammar.push_str(patterns.to_string(alloc)?.as_str())?;
     grammar.push('}')?;
     let mut files = Vec::new(alloc);
-    add(alloc, &mut files, "s", "{\"settings\":[{\"grammar\":\"g\"}]}")?;
+    add(
+        alloc,
+        &mut files,
+        "s",
+        "{\"settings\":[{\"grammar\":\"g\"}]}",
+    )?;
     add(alloc, &mut files, "g", grammar.as_str())?;
     Ok(files)
 }
