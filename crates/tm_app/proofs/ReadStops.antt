@@ -23,6 +23,11 @@ not-place line refusal.NotJson e = cc
 not-place line (refusal.BadShape path) e = cc
 not-place line refusal.NotYet e = cc
 
+-- what a file was read as
+pub found : (told : Option (List ℕ)) (P : List ℕ → Type 0) → Told told P → (bytes : List ℕ) × P bytes
+found None P h = h
+found (Some bytes) P h = (bytes, h)
+
 pub told-as : (a b : Option (List ℕ)) (P : List ℕ → Type 0) → a ≡ b → Told a P → Told b P
 told-as a b P e h = let Q : Option (List ℕ) → Type 0 = λ o. Told o P in subst Q e h
 

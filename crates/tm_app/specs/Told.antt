@@ -7,9 +7,9 @@ use Rattle.tm_app.specs.declared.status.What.TheVariants.{NotJson, BadShape, Not
 use Rattle.tm_app.specs.declared.status.Status.{Status}
 use Rattle.tm_app.specs.declared.status.Status.TheVariants.{Ok, Usage, FileFault, Refused, SinkFault, OutOfMemory, BudgetSeen, TableFull}
 
--- what holds of the bytes of a file, where they are told
+-- what holds of the bytes that a file was read as: of those that it tells, or, where it tells none, of some
 abbrev pub Told : Option (List ℕ) → (List ℕ → Type 0) → Type 0
-Told told P = MatchOption told ⊤ P
+Told told P = MatchOption told ((bytes : List ℕ) × P bytes) P
 
 -- the bytes of a file are told, and this holds of them
 abbrev pub IsTold : Option (List ℕ) → (List ℕ → Type 0) → Type 0

@@ -165,8 +165,9 @@ fn decide<F: Files, S: Sink>(
 /// exactly where the words are no command; `FileFault` only where this call added the name of a file of the
 /// reading order to those that failed; `Refused` exactly for a file that is refused, a setting of more than
 /// 65,535 rules, or an edit whose place is not in the text; `SinkFault` only where the faults of `out` rose;
-/// `BudgetSeen` exactly where all steps are done and a line that begins with `!` was written; want of memory
-/// is free.
+/// `BudgetSeen` exactly where all steps are done and a line that begins with `!` was written. `OutOfMemory` may
+/// come at any time; no cause is promised. Of files that tell no bytes all of this holds for some bytes of theirs,
+/// which have the form that was read: a name is pinned to the reading order where the files before it tell bytes.
 pub fn run<F: Files, S: Sink>(
     alloc: Global,
     words: &Vec<String>,

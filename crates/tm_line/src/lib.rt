@@ -35,8 +35,7 @@ mod run;
 mod search;
 mod starts;
 mod tables;
-#[cfg(test)]
-mod tests;
+mod threads;
 pub mod tokenizer;
 mod turn;
 mod way;

@@ -24,8 +24,7 @@ ghost use Rattle.tm_line_run.specs.Laws.{FindsWithin, IsLineRun};
 ghost use Rattle.tm_line_run.specs.Painted.{runs_of, scopes_at};
 
 pub mod painter;
-#[cfg(test)]
-mod tests;
+mod threads;
 
 /// A line has exactly one outcome: the one that satisfies the equation of its turns.
 pub fn one_outcome()

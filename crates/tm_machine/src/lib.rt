@@ -5,3 +5,4 @@
 
 pub mod entries;
 pub mod laws;
+mod threads;

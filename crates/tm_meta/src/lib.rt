@@ -16,8 +16,7 @@ ghost use Rattle.tm_meta.specs.Leftmost.{IsLeftmost};
 ghost use Rattle.tm_meta.specs.Metadata.{metadata_of};
 
 pub mod metadata;
-#[cfg(test)]
-mod tests;
+mod threads;
 
 /// The leftmost word decides a scope's token type.
 pub fn leftmost_word()

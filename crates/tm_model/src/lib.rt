@@ -6,6 +6,5 @@ pub mod lines;
 pub mod model;
 pub mod numbering;
 pub mod replaced;
-#[cfg(test)]
-mod tests;
+mod threads;
 mod turns;

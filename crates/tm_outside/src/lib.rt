@@ -10,5 +10,4 @@ pub mod honest;
 pub mod memory;
 pub mod real;
 pub mod sink;
-#[cfg(test)]
-mod tests;
+mod threads;

@@ -1,10 +1,14 @@
+use Rattle.std.proofs.Common.{◌≡◌, Ok}
+use Rattle.tm_forms.specs.Settings.{settings_in}
 use Rattle.tm_app.specs.Told.{where_told}
 use Rattle.tm_app.proofs.Layers.{loaded-some, lists-stop}
+use Rattle.tm_app.proofs.ReadStops.{found}
 use Rattle.tm_app.proofs.setup.load_settings.Goals as goal
 
 pub returns-in-Ok-load_list-clause-some : goal.returns-in-Ok-load_list-clause-some
 returns-in-Ok-load_list-clause-some g c =
-    loaded-some (where_told (g.F.Files.bytes c.load.new.files)) c.in-Ok.ensures.formed.0 c.in-Ok.says c.settings.result.now c.in-Ok-load_list.settings.items c.in-Ok.ensures.formed.1 c.settings.ensures c.in-Ok-load_list.ensures.ok
+    let read = found (g.F.Files.bytes c.args.files.now c.args.name.now) (λ bytes. settings_in bytes ≡ Ok c.in-Ok.says) c.in-Ok.ensures.ok in
+    loaded-some (where_told (g.F.Files.bytes c.load.new.files)) read.0 c.in-Ok.says c.settings.result.now c.in-Ok-load_list.settings.items read.1 c.settings.ensures c.in-Ok-load_list.ensures.ok
 
 pub returns-clause-err : goal.returns-clause-err
 returns-clause-err g c =
