@@ -2,6 +2,7 @@
 use Rattle.std.specs.Prelude.{◌≡◌, ℕ, List, [], ◌∷◌, length, map, Bool, Option, Some, None, slice_get}
 use Rattle.tm_onig_class.specs.Tree.{Tree}
 use Rattle.tm_onig_scan.specs.Winner.{parsed_if}
+use Rattle.tm_onig_scan.specs.Rows.{AreCandidates}
 use Rattle.tm_rules.specs.Candidates.{flattened_candidates, with_end}
 use Rattle.tm_rules.specs.declared.candidate.Candidate.{Candidate}
 use Rattle.tm_rules.specs.declared.candidate.Candidate.TheVariants.{Start, End}
@@ -26,9 +27,14 @@ abbrev pub with_end_if : Option Bool → List Candidate → List Candidate
 with_end_if None cs = cs
 with_end_if (Some last) cs = with_end last cs
 
--- the starts inside this rule by number, and whether its end is tried last, if it has one
-abbrev pub IsInside : List Rule → ℕ → Inside → Type 0
-IsInside rules n inside = flattened_candidates rules n ≡ with_end_if inside.end_last (map Start inside.numbers.items)
+-- the patterns that start rules, each at the number of its rule
+abbrev pub starts_read : List Rule → List (Option Tree)
+starts_read rules = map (λ rule. parsed_if (start_text (Some rule))) rules
+
+-- the starts inside this rule by number, ready to be searched, and whether its end is tried last, if it has one
+pub record IsInside (rules : List Rule) (n : ℕ) (inside : Inside) : Type 0 where
+  pub listed : flattened_candidates rules n ≡ with_end_if inside.end_last (map Start inside.starts.numbers.items)
+  pub ready : AreCandidates (starts_read rules) inside.starts
 
 -- each has those of its rule
 pub record AreInsides (rules : List Rule) (insides : List Inside) : Type 0 where
@@ -37,5 +43,5 @@ pub record AreInsides (rules : List Rule) (insides : List Inside) : Type 0 where
 
 -- the patterns that start rules, each at the number of its rule, and those that end them as they stand in the grammar
 pub record AreRead (rules : List Rule) (read_starts read_ends : List (Option Tree)) : Type 0 where
-  pub starts : read_starts ≡ map (λ rule. parsed_if (start_text (Some rule))) rules
+  pub starts : read_starts ≡ starts_read rules
   pub ends : read_ends ≡ map (λ rule. parsed_if (own_end (Some rule))) rules

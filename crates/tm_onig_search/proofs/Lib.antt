@@ -5,3 +5,4 @@ pub mod Ends
 pub mod Local
 pub mod Within
 pub mod Least
+pub mod Starts

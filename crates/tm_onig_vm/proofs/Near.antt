@@ -10,7 +10,7 @@ use Rattle.tm_onig_class.specs.Widths.{least_width, widths_sum, widths_least}
 use Rattle.tm_onig_search.specs.Widths.{both_widths, greatest_width, greatest_sum, greatest_of}
 use Rattle.tm_onig_search.specs.Find.{last_group, last_group_of}
 use Rattle.tm_onig_vm.specs.Near.{near}
-use Rattle.tm_onig_vm.proofs.Pushed.{parts_at, no_parts}
+use Rattle.tm_onig_vm.proofs.Parts.{parts_at, no_parts}
 
 near_min : (a b : ℕ) → min (near a) (near b) ≡ near (min a b)
 near_min a b = omega arith
