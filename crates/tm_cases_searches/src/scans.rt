@@ -1,6 +1,5 @@
 //! Searches of several patterns at once.
-ghost use Rattle.std.specs.Prelude.{◌≡◌, ◌<◌, ◌^◌, length, IfOk};
-ghost use Rattle.tm_onig_scan.specs.Winner.{earliest_winner, patterns_at, trees_of};
+ghost use Rattle.std.specs.Prelude.{◌<◌, ◌^◌, length};
 
 use crate::lines::{groups, line, name, small};
 use serde_json::Value;

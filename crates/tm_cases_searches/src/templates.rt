@@ -1,5 +1,5 @@
 //! Templates of names and texts of ends.
-ghost use Rattle.std.specs.Prelude.{◌≡◌, ◌<◌, length, slice_get, Some, IfOk, IfSome, IsTrue};
+ghost use Rattle.std.specs.Prelude.{◌≡◌, Some, IfOk, IfSome, IsTrue};
 ghost use Rattle.tm_onig_search.specs.Find.{AreWithin};
 ghost use Rattle.tm_template.specs.Captured.{IsSpanWithin};
 ghost use Rattle.tm_template.specs.Ends.{resolved};
