@@ -7,7 +7,8 @@ of the times:
 - `replay` of one settle and one show over 10,000 and 20,000 lines, by a grammar of five patterns;
 - `scan` of 100,000 and 200,000 short lines by the ini grammar of examples/: a text file of the form that is
   built has at most 1,000,000 bytes, so a line has four characters at most;
-- `scan` of 50,000 and 100,000 lines of nine characters at most by a grammar of forty patterns.
+- `scan` of 50,000 and 100,000 lines of nine characters at most by a grammar of forty patterns;
+- `scan` of 5,000 and 10,000 lines of usual code, of 80 and 84 characters, by the same grammar.
 
 Peak memory is that of the program's process, as the system counts it.
 """
@@ -53,6 +54,10 @@ FORTY = {"scopeName": "source.t", "patterns": [
 ]}
 
 FORTY_LINES = ["let a = 1", "if f(x) :", "a.b = 0x1", "/* b */ c", "x // note", "\"a\\n\" of", "T new", ""]
+
+# usual code, lines of 80 and 84 characters
+USUAL_LINES = ["    if (count > 0x1F && table.has(name)) { return new Value(key, \"a\\n\", 12.5); }",
+               "    for item in list.items() { total = total + item.size * 2; log(\"done\", item.id) }"]
 
 
 def written(folder, name, data):
@@ -114,9 +119,14 @@ def main():
             text = written(folder, f"forty_{size}.txt", text_of(FORTY_LINES, size))
             return ["scan", forty_settings, text]
 
+        def scan_usual(size):
+            text = written(folder, f"usual_{size}.txt", text_of(USUAL_LINES, size))
+            return ["scan", forty_settings, text]
+
         table("replay, five patterns", (10_000, 20_000), replay, runs)
         table("scan, ini grammar", (100_000, 200_000), scan, runs)
         table("scan, forty patterns", (50_000, 100_000), scan_forty, runs)
+        table("scan, forty patterns, usual code", (5_000, 10_000), scan_usual, runs)
 
 
 if __name__ == "__main__":

@@ -43,7 +43,7 @@ module _ (rules : List Rule) (f : FrameData) where
   candidates-counted end_last has_end numbers e = ap (flat_map (tried rules f has_end)) e ∙ tried-counted end_last has_end numbers
 
 -- What is found of an open rule with the numbers of what is searched inside it.
-module _ (text : List ℕ) (at : ℕ) (allow_a allow_g : Bool) (rules : List Rule) (f : FrameData) (has_end : Bool) (inside : Inside) (numbers : List ℕ) (is : IsInside rules f.rule inside) (same : numbers ≡ inside.numbers.items) where
+module _ (text : List ℕ) (at : ℕ) (allow_a allow_g : Bool) (rules : List Rule) (f : FrameData) (has_end : Bool) (inside : Inside) (numbers : List ℕ) (is : IsInside rules f.rule inside) (same : numbers ≡ inside.starts.numbers.items) where
   abbrev For : List Candidate → ℕ → ℕ → Result (Option Found) FindFault → Type 0
   For cs before after result = SearchesFor text at allow_a allow_g cs before after result
 
@@ -54,7 +54,7 @@ module _ (text : List ℕ) (at : ℕ) (allow_a allow_g : Bool) (rules : List Rul
   starts = starts_of rules numbers
 
   counted : candidates_in rules f has_end ≡ counted_in inside.end_last has_end starts (ends rules f)
-  counted = candidates-counted rules f inside.end_last has_end numbers (is ∙ ap (λ l. with_end_if inside.end_last (map Start l)) (sym same))
+  counted = candidates-counted rules f inside.end_last has_end numbers (is.listed ∙ ap (λ l. with_end_if inside.end_last (map Start l)) (sym same))
 
   cost-counted : (end_last : Option Bool) (has_end : Bool) → cost starts ≤ cost (counted_in end_last has_end starts (ends rules f))
   cost-counted None has_end = omega arith

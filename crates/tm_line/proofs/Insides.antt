@@ -1,7 +1,8 @@
 -- What is searched inside a rule: the starts among its candidates, and its end.
-use Rattle.std.proofs.Common.{◌≡◌, ℕ, zero, suc, ◌+◌, ◌++◌, Bool, true, false, List, [], ◌∷◌, length, length-append, map, flat_map, Some, Option, refl, ap, sym, ◌∙◌, arith, ◌⊎◌, inl, inr, ⊎_elim, append-nil, subst}
+use Rattle.std.proofs.Common.{◌≡◌, ℕ, zero, suc, ◌+◌, ◌++◌, Bool, true, false, List, [], ◌∷◌, length, length-append, map, flat_map, Some, None, Option, get_or, ◌<◌, ◌≤◌, refl, ap, sym, ◌∙◌, arith, ◌⊎◌, inl, inr, ⊎_elim, append-nil, subst}
 use Rattle.std.specs.Prelude.{slice_get}
 use Rattle.std.proofs.lemmas.List.{map-append}
+use Rattle.std.proofs.lemmas.Option.{slice_get-get_or, slice_get_past}
 use Rattle.tm_rules.specs.Candidates.{contributed, unopened, flattened, flattened_candidates, start_unless, unless_open, with_end}
 use Rattle.tm_rules.specs.Readers.{is_only, patterns_of}
 use Rattle.tm_rules.specs.declared.candidate.Candidate.{Candidate}
@@ -106,3 +107,11 @@ one-made rules i insides new inside h e is = record {
 
 pub all-made : (rules : List Rule) (count : ℕ) (insides : List Inside) → count ≡ length rules → IsMaking rules count insides → AreInsides rules insides
 all-made rules count insides e h = record { long = h.long ∙ e; right = h.right }
+
+-- what stands at a number is what is searched inside its rule
+module _ (rules : List Rule) (insides : List Inside) (n : ℕ) (are : AreInsides rules insides) where
+  pub inside-found : (inside d : Inside) → n < length insides → inside ≡ get_or insides n d → IsInside rules n inside
+  inside-found inside d low is = are.right n inside (slice_get-get_or insides n d low ∙ ap (λ (x : Inside). Some x) (sym is))
+
+  pub inside-none : length insides ≤ n → slice_get rules n ≡ None
+  inside-none past = slice_get_past rules n (omega (arith, are.long, past))

@@ -2,6 +2,7 @@
 use Rattle.std.specs.Prelude.{◌≡◌, ℕ, List, [], ◌∷◌, length, map, Bool, Option, Some, None, slice_get}
 use Rattle.tm_onig_class.specs.Tree.{Tree}
 use Rattle.tm_onig_scan.specs.Winner.{parsed_if}
+use Rattle.tm_onig_scan.specs.Rows.{AreCandidates}
 use Rattle.tm_rules.specs.Candidates.{flattened_candidates}
 pub use Rattle.tm_rules.specs.Candidates.{with_end_if}
 use Rattle.tm_rules.specs.Readers.{end_last_in}
@@ -21,9 +22,14 @@ numbers_in (End ∷ cs) = numbers_in cs
 abbrev pub end_last_of : Rule → Option Bool
 end_last_of rule = end_last_in (Some rule)
 
--- the starts inside this rule by number, and whether its end is tried last, if it has one
-abbrev pub IsInside : List Rule → ℕ → Inside → Type 0
-IsInside rules n inside = flattened_candidates rules n ≡ with_end_if inside.end_last (map Start inside.numbers.items)
+-- the patterns that start rules, each at the number of its rule
+abbrev pub starts_read : List Rule → List (Option Tree)
+starts_read rules = map (λ rule. parsed_if (start_text (Some rule))) rules
+
+-- the starts inside this rule by number, ready to be searched, and whether its end is tried last, if it has one
+pub record IsInside (rules : List Rule) (n : ℕ) (inside : Inside) : Type 0 where
+  pub listed : flattened_candidates rules n ≡ with_end_if inside.end_last (map Start inside.starts.numbers.items)
+  pub ready : AreCandidates (starts_read rules) inside.starts
 
 -- each has those of its rule
 pub record AreInsides (rules : List Rule) (insides : List Inside) : Type 0 where
@@ -32,5 +38,5 @@ pub record AreInsides (rules : List Rule) (insides : List Inside) : Type 0 where
 
 -- the patterns that start rules, each at the number of its rule, and those that end them as they stand in the grammar
 pub record AreRead (rules : List Rule) (read_starts read_ends : List (Option Tree)) : Type 0 where
-  pub starts : read_starts ≡ map (λ rule. parsed_if (start_text (Some rule))) rules
+  pub starts : read_starts ≡ starts_read rules
   pub ends : read_ends ≡ map (λ rule. parsed_if (own_end (Some rule))) rules

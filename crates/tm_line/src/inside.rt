@@ -1,18 +1,21 @@
 //! What is searched while a rule is open.
 ghost use Rattle.std.specs.Prelude.{◌≡◌, ◌<◌, length, IfOk};
-ghost use Rattle.tm_line.specs.Insides.{AreInsides, IsInside, end_last_of, numbers_in};
+ghost use Rattle.tm_onig_scan.specs.Winner.{trees_of};
+ghost use Rattle.tm_line.specs.Insides.{AreInsides, IsInside, end_last_of, numbers_in, starts_read};
 
 use std::alloc::Global;
 use tm_defs::memory::OutOfMemory;
 use tm_defs::rules::Rule;
+use tm_onig_scan::Scanner;
+use tm_onig_scan::candidates::Candidates;
 use tm_rules::candidate::Candidate;
 use tm_rules::rules::Rules;
 
-/// The numbers of the rules whose starts are searched while a rule is open, in their order, and whether
-/// its end is tried behind them, where it has an end.
+/// The rules whose starts are searched while a rule is open, by number and in their order, and whether its
+/// end is tried behind them, where it has an end.
 #[derive(Drop)]
 pub struct Inside {
-    pub numbers: Vec<u32>,
+    pub starts: Candidates,
     pub end_last: Option<bool>,
 }
 
@@ -42,23 +45,30 @@ fn end_last_of(rule: &Rule) -> Option<bool>
     }
 }
 
-/// What is searched inside a rule.
-fn inside_of(alloc: Global, rules: &Rules, n: u32) -> Result<Inside, OutOfMemory>
-    requires { n < length rules.now }
+/// What is searched inside a rule, of the patterns that start rules.
+fn inside_of(alloc: Global, rules: &Rules, starts: &Scanner, n: u32) -> Result<Inside, OutOfMemory>
+    requires within { n < length rules.now }
+    requires read { trees_of starts.now ≡ starts_read rules.now }
     ensures { IfOk result (λ inside. IsInside rules.now n inside) }
 {
     let numbers = numbers_of(alloc, rules.candidates(n))?;
+    let starts = starts.candidates(alloc, numbers)?;
     let end_last = end_last_of(rules.rule(n));
-    Ok(Inside { numbers, end_last })
+    Ok(Inside { starts, end_last })
 }
 
 /// What is searched inside each of the rules.
-pub fn insides_of(alloc: Global, rules: &Rules) -> Result<Vec<Inside>, OutOfMemory>
+pub fn insides_of(
+    alloc: Global,
+    rules: &Rules,
+    starts: &Scanner,
+) -> Result<Vec<Inside>, OutOfMemory>
+    requires read { trees_of starts.now ≡ starts_read rules.now }
     ensures { IfOk result (λ insides. AreInsides rules.now insides.items) }
 {
     let mut insides = Vec::new(alloc);
     for n in 0..rules.len() {
-        insides.push(inside_of(alloc, rules, n)?)?;
+        insides.push(inside_of(alloc, rules, starts, n)?)?;
     }
     Ok(insides)
 }

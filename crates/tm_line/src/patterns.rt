@@ -73,7 +73,7 @@ impl Patterns {
             starts.push(alloc, start_text(rule))?;
             ends.push(alloc, end_text(rule))?;
         }
-        let insides = insides_of(alloc, &rules)?;
+        let insides = insides_of(alloc, &rules, &starts)?;
         Ok(Patterns {
             rules,
             starts,
@@ -97,6 +97,9 @@ impl Patterns {
     pub fn inside(&self, n: u32) -> Option<&Inside>
         ensures { MatchOption result (slice_get self.now n ≡ None) (λ inside. IsInside self.now n inside.now) }
     {
-        self.insides.get(n as usize)
+        match self.insides.get(n as usize) {
+            Some(inside) => Some(inside),
+            None => None,
+        }
     }
 }

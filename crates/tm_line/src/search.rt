@@ -1,12 +1,13 @@
 //! The search of the earliest candidate.
 //!
-//! The starts of the rules inside an open rule are one scan, and its end is one search more, each from the
-//! same position to the text's end, and what the one leaves of the budget is the budget of the other. A line
-//! with many candidates and many turns so searches each of them at each turn.
+//! The starts of the rules inside an open rule are one pass over the text, and its end is one search more, each
+//! from the same position to its first match, and what the one leaves of the budget is the budget of the other.
 ghost use Rattle.std.specs.Prelude.{◌≡◌, ◌≤◌, ◌<◌, ◌^◌, ◌∷◌, [], ℕ, List, Some, length, option_map, slice_get};
 ghost use Rattle.tm_defs.specs.Tables.{IsFrameOf, frame_at};
 ghost use Rattle.tm_onig_parse.specs.Reading.{parsed};
+ghost use Rattle.tm_onig_scan.specs.Rows.{AreCandidates};
 ghost use Rattle.tm_onig_scan.specs.Winner.{start_of, trees_of};
+ghost use Rattle.tm_line.specs.Insides.{starts_read};
 ghost use Rattle.tm_line.specs.MadeEnds.{AreMadeEnds};
 ghost use Rattle.tm_line.specs.Search.{candidates_in, earliest, end_of, end_text, found_as, own_end, searches_cost};
 ghost use Rattle.tm_line.specs.Searched.{Searches, earlier, earlier_in, end_with, starts_of};
@@ -19,6 +20,7 @@ use tm_defs::caps::Caps;
 use tm_defs::frames::Frame;
 use tm_defs::tables::States;
 use tm_defs::texts::Line;
+use tm_onig_scan::candidates::Candidates;
 use tm_onig_vm::fault::FindFault;
 
 /// Which of the places `\A` and `\G` a search allows.
@@ -88,32 +90,33 @@ fn earlier_in(end_last: bool, start: Option<Found>, end: Option<Found>) -> Optio
     }
 }
 
-/// The earliest start of the rules with these numbers.
+/// The earliest start of these rules.
 fn earliest_start(
     alloc: Global,
     patterns: &Patterns,
-    numbers: &[u32],
+    starts: &Candidates,
     text: &Line,
     at: usize,
     anchors: Anchors,
     budget: &mut u64,
 ) -> Result<Option<Found>, FindFault>
+    requires ready { AreCandidates (starts_read patterns.now) starts.now }
     requires within { at ≤ length text.now }
     requires small { length text.now < 2 ^ 31 }
-    ensures { let cs = starts_of patterns.now numbers.now in
+    ensures { let cs = starts_of patterns.now starts.now.numbers.items in
         Searches (earliest text.now at anchors.allow_a anchors.allow_g cs) (searches_cost text.now at anchors.allow_a anchors.allow_g cs)
         budget.old budget.new result }
 {
     let won = patterns.starts.next_among(
         alloc,
-        numbers,
+        starts,
         text,
         at as u32,
         anchors.allow_a,
         anchors.allow_g,
         budget,
     )?;
-    Ok(candidate_at(numbers, won))
+    Ok(candidate_at(starts.numbers.as_slice(), won))
 }
 
 /// The first match of the end that a rule has in its grammar.
@@ -132,9 +135,9 @@ fn own_end(
         Searches (earliest text.now at anchors.allow_a anchors.allow_g cs) (searches_cost text.now at anchors.allow_a anchors.allow_g cs)
         budget.old budget.new result }
 {
-    let won = patterns.ends.next_among(
+    let won = patterns.ends.next_of(
         alloc,
-        &[rule],
+        rule,
         text,
         at as u32,
         anchors.allow_a,
@@ -228,8 +231,7 @@ pub fn winner<S: States>(
     let Some(inside) = patterns.inside(frame.rule) else {
         return Ok(None);
     };
-    let numbers = inside.numbers.as_slice();
-    let start = earliest_start(alloc, patterns, numbers, text, at, anchors, budget)?;
+    let start = earliest_start(alloc, patterns, &inside.starts, text, at, anchors, budget)?;
     let Some(end_last) = inside.end_last else {
         return Ok(start);
     };

@@ -1,5 +1,6 @@
 mod Readable
-mod Scans
 mod Kept
 mod Earliest
 mod Only
+mod Tried
+mod Rows

@@ -1,2 +1,4 @@
 pub mod Winner
 pub mod WinnerLaws
+pub mod Pass
+pub mod Rows

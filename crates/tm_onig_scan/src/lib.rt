@@ -2,36 +2,36 @@
 //!
 //! A `Scanner` is made of the texts of its patterns, all at once or one after another, and searches lines
 //! again and again: of all patterns, or of those of a list of numbers, the one that is found earliest wins,
-//! the first in the list on a tie. The patterns are searched one after another, each from the same position
-//! on, and what one search leaves of the budget is the budget of the next. So a scan takes the steps of all
-//! these searches.
+//! the first in the list on a tie. One pass goes over the starts, and tries at each the patterns in their
+//! order, but for those that cannot start there. So the first match wins, and nothing is searched behind it.
 //!
-//! The patterns `b`, `(`, `ab` and `a` in the line `ab`:
+//! The patterns `b`, `(`, `ab` and `a` in the line `xab`:
 //!
-//! | Number | Pattern | Found | Steps |
-//! |---|---|---|---|
-//! | 0 | `b` | 1 to 2 | 1 + 2 |
-//! | 1 | `(`, which is unreadable | | |
-//! | 2 | `ab` | 0 to 2 | 4 |
-//! | 3 | `a` | 0 to 1 | 2 |
+//! | Start | What stands there | May start | Tried | Steps |
+//! |---|---|---|---|---|
+//! | 0 | `x` | none | | |
+//! | 1 | `a` | 2 and 3 | `ab`, which matches from 1 to 3 | 4 |
 //!
-//! Pattern 2 wins, and the scan takes 9 steps. Among the numbers 0, 3 and 2 pattern 3 wins, at place 1, and
-//! the scan takes 9 steps too.
+//! Pattern 2 wins, pattern 1 being unreadable, and the pass takes 4 steps, where the searches of the four
+//! patterns one after another, each to its first match, take 4 + 6 + 3 = 13.
 #![tactic(auto)]
 
 ghost use Rattle.std.specs.Option.{option_copied};
-ghost use Rattle.std.specs.Prelude.{◌≡◌, ◌↔◌, ◌+◌, ◌++◌, ◌<◌, ◌≤◌, ◌^◌, ℕ, Bool, List, [], ◌∷◌, Option, length, map, option_map, Some, IsTrue, OnOk, OnErr, IfOk, IsErrOf};
+ghost use Rattle.std.specs.Prelude.{◌≡◌, ◌↔◌, ◌+◌, ◌++◌, ◌<◌, ◌≤◌, ◌^◌, ◌-◌, ℕ, Bool, List, [], ◌∷◌, Option, length, map, option_map, Some, IsTrue, OnOk, OnErr, IfOk, IfSome, IsErrOf, slice_get};
 ghost use Rattle.tm_onig_class.specs.Tree.{Tree, tree_of};
 ghost use Rattle.tm_onig_parse.specs.Reading.{parsed};
 ghost use Rattle.tm_onig_search.specs.Outcomes.{Caps};
-ghost use Rattle.tm_onig_scan.specs.Winner.{trees_of, parsed_if, pattern_at, patterns_at, IsReadable, start_of, earlier, found, found_cost, earliest_winner, scan_cost};
+ghost use Rattle.tm_onig_scan.specs.Winner.{trees_of, parsed_if, pattern_at, patterns_at, IsReadable, earliest_winner, scan_cost};
+ghost use Rattle.tm_onig_scan.specs.Pass.{Pass, pass_from};
+ghost use Rattle.tm_onig_scan.specs.Rows.{AreCandidates};
+ghost use Rattle.tm_onig_search.specs.Places.{subject};
 ghost use Rattle.tm_onig_scan.specs.WinnerLaws.{IsEarliest, IsWinner};
 
-#[cfg(test)]
-mod table;
-#[cfg(test)]
-mod tests;
+pub mod candidates;
+mod passes;
 
+use candidates::{Candidates, candidates_of, program_at};
+use passes::pass;
 use std::alloc::Global;
 use std::marker::Model;
 use tm_defs::caps::Caps;
@@ -40,6 +40,7 @@ use tm_defs::texts::{Line, Name};
 use tm_onig_parse::{ParseFault, parse};
 use tm_onig_vm::fault::FindFault;
 use tm_onig_vm::program::{Prog, compile, find};
+use tm_onig_vm::starts::Anchors;
 
 /// Patterns that are searched together, each with its place in the list as its number. A pattern whose
 /// text is unreadable keeps its place and matches nowhere.
@@ -85,96 +86,6 @@ fn program_if(alloc: Global, text: Option<&Name>) -> Result<Option<Prog>, OutOfM
         Some(text) => program_of(alloc, text),
         None => Ok(None),
     }
-}
-
-/// Where the whole match starts.
-fn start(caps: &Caps) -> u32
-    ensures { result ≡ start_of caps.now }
-{
-    match caps.as_slice() {
-        [Some((start, _)), ..] => *start,
-        _ => 0,
-    }
-}
-
-/// The earlier of two matches, the first on a tie.
-fn earlier_of(a: Option<(u32, Caps)>, b: Option<(u32, Caps)>) -> Option<(u32, Caps)>
-    ensures { result ≡ earlier a b }
-{
-    match (a, b) {
-        (None, b) => b,
-        (Some(a), None) => Some(a),
-        (Some(a), Some(b)) => if start(&b.1) < start(&a.1) {
-            Some(b)
-        } else {
-            Some(a)
-        },
-    }
-}
-
-/// The program of a number, if it has one; a number beyond the list has none.
-fn program_at(programs: &[Option<Prog>], number: u32) -> Option<&Prog>
-    ensures { option_map tree_of (option_copied result) ≡ pattern_at (trees_of programs.now) number }
-{
-    match programs.get(number as usize) {
-        Some(Some(program)) => Some(program),
-        _ => None,
-    }
-}
-
-/// The first match of a program, if there is one.
-fn found_by(
-    alloc: Global,
-    program: Option<&Prog>,
-    line: &Line,
-    from: u32,
-    allow_a: bool,
-    allow_g: bool,
-    budget: &mut u64,
-) -> Result<Option<Caps>, FindFault>
-    requires small { length line.now < 2 ^ 31 }
-    ensures hit { let tree = option_map tree_of (option_copied program.entry) in IfOk result (λ caps. caps ≡ found line.now from allow_a allow_g tree) }
-    ensures cost { let tree = option_map tree_of (option_copied program.entry) in OnOk result (budget.new + found_cost line.now from allow_a allow_g tree ≡ budget.old) }
-    ensures over { let tree = option_map tree_of (option_copied program.entry) in IsErrOf result FindFault.Budget → budget.old < found_cost line.now from allow_a allow_g tree }
-    ensures falls { let tree = option_map tree_of (option_copied program.entry) in (budget.new ≤ budget.old) × (budget.old ≤ budget.new + found_cost line.now from allow_a allow_g tree) }
-{
-    match program {
-        Some(program) => find(alloc, program, line, from, allow_a, allow_g, budget),
-        None => Ok(None),
-    }
-}
-
-/// The same with the number of its pattern.
-fn numbered(number: u32, found: Option<Caps>) -> Option<(u32, Caps)>
-    ensures { result ≡ option_map (λ caps. (number, caps)) found }
-{
-    match found {
-        Some(caps) => Some((number, caps)),
-        None => None,
-    }
-}
-
-/// The earlier of the best match so far and of the first match of a program, the best so far on a tie.
-fn earlier_with(
-    alloc: Global,
-    best: Option<(u32, Caps)>,
-    number: u32,
-    program: Option<&Prog>,
-    line: &Line,
-    from: u32,
-    allow_a: bool,
-    allow_g: bool,
-    budget: &mut u64,
-) -> Result<Option<(u32, Caps)>, FindFault>
-    requires small { length line.now < 2 ^ 31 }
-    ensures hit { let tree = option_map tree_of (option_copied program.entry) in
-        IfOk result (λ won. won ≡ earlier best (option_map (λ caps. (number, caps)) (found line.now from allow_a allow_g tree))) }
-    ensures cost { let tree = option_map tree_of (option_copied program.entry) in OnOk result (budget.new + found_cost line.now from allow_a allow_g tree ≡ budget.old) }
-    ensures over { let tree = option_map tree_of (option_copied program.entry) in IsErrOf result FindFault.Budget → budget.old < found_cost line.now from allow_a allow_g tree }
-    ensures falls { let tree = option_map tree_of (option_copied program.entry) in (budget.new ≤ budget.old) × (budget.old ≤ budget.new + found_cost line.now from allow_a allow_g tree) }
-{
-    let found = found_by(alloc, program, line, from, allow_a, allow_g, budget)?;
-    Ok(earlier_of(best, numbered(number, found)))
 }
 
 impl Scanner {
@@ -229,12 +140,25 @@ impl Scanner {
         self.programs[number as usize].is_some()
     }
 
+    /// The list of the patterns of these numbers, ready to be searched again and again: before which characters
+    /// each of them may start is found out here. A list of 2^32 numbers or more is answered as want of memory.
+    pub fn candidates(&self, alloc: Global, numbers: Vec<u32>) -> Result<Candidates, OutOfMemory>
+        ensures numbers { IfOk result (λ made. made.numbers.items ≡ numbers.items) }
+        ensures right { IfOk result (λ made. AreCandidates (trees_of self.now) made) }
+    {
+        if numbers.len() > u32::MAX as usize {
+            return Err(OutOfMemory);
+        }
+        candidates_of(alloc, self.programs.as_slice(), numbers)
+    }
+
     /// The number of the pattern that is found earliest from `from` on, the first in the list on a tie, and
     /// the groups of its match; none where no pattern matches at any start up to the line's end. Positions
     /// are in characters. `allow_a` and `allow_g` say whether `\A` may match at 0 and `\G` at `from`.
     ///
-    /// The searches of all patterns take their steps from the budget, one after another. `Budget` comes only
-    /// where they cost more than the budget in all.
+    /// What is tried takes its steps from the budget, and `Budget` comes only where the searches of all patterns,
+    /// one after another, cost more than the budget in all.
+    #[tactic(auto, using(crate::proofs::Tried::pass_winner, crate::proofs::Tried::pass_cost))]
     pub fn next(
         &self,
         alloc: Global,
@@ -246,36 +170,23 @@ impl Scanner {
     ) -> Result<Option<(u32, Caps)>, FindFault>
         requires small { length line.now < 2 ^ 31 }
         ensures hit { IfOk result (λ winner. winner ≡ earliest_winner line.now from allow_a allow_g (trees_of self.now)) }
-        ensures cost { OnOk result (budget.new + scan_cost line.now from allow_a allow_g (trees_of self.now) ≡ budget.old) }
         ensures over { IsErrOf result FindFault.Budget → budget.old < scan_cost line.now from allow_a allow_g (trees_of self.now) }
         ensures falls { (budget.new ≤ budget.old) × (budget.old ≤ budget.new + scan_cost line.now from allow_a allow_g (trees_of self.now)) }
     {
-        let mut best = None;
-        for (number, program) in self.programs.iter().enumerate() {
-            let program = program.as_ref();
-            best = earlier_with(
-                alloc,
-                best,
-                number as u32,
-                program,
-                line,
-                from,
-                allow_a,
-                allow_g,
-                budget,
-            )?;
-        }
-        Ok(best)
+        let anchors = Anchors {
+            first: from as usize,
+            allow_a,
+            allow_g,
+        };
+        pass(alloc, self.programs.as_slice(), None, line, anchors, budget)
     }
 
-    /// As `next`, of the patterns of these numbers alone: the one that is found earliest, the first in the
-    /// list of numbers on a tie, with its place in that list. A number beyond the patterns is as one whose
-    /// pattern is unreadable, and a pattern that is listed twice is searched twice. A list of 2^32 numbers
-    /// or more is answered as want of memory.
-    pub fn next_among(
+    /// As `next`, of the pattern of this number alone, which then has the place 0. A number beyond the patterns
+    /// is as one whose pattern is unreadable.
+    pub fn next_of(
         &self,
         alloc: Global,
-        numbers: &[u32],
+        number: u32,
         line: &Line,
         from: u32,
         allow_a: bool,
@@ -283,34 +194,59 @@ impl Scanner {
         budget: &mut u64,
     ) -> Result<Option<(u32, Caps)>, FindFault>
         requires small { length line.now < 2 ^ 31 }
-        ensures hit { let patterns = patterns_at (trees_of self.now) numbers.now in
+        ensures hit { let patterns = pattern_at (trees_of self.now) number ∷ [] in
             IfOk result (λ winner. winner ≡ earliest_winner line.now from allow_a allow_g patterns) }
-        ensures cost { let patterns = patterns_at (trees_of self.now) numbers.now in
-            OnOk result (budget.new + scan_cost line.now from allow_a allow_g patterns ≡ budget.old) }
-        ensures over { let patterns = patterns_at (trees_of self.now) numbers.now in
+        ensures over { let patterns = pattern_at (trees_of self.now) number ∷ [] in
             IsErrOf result FindFault.Budget → budget.old < scan_cost line.now from allow_a allow_g patterns }
-        ensures falls { let patterns = patterns_at (trees_of self.now) numbers.now in
+        ensures falls { let patterns = pattern_at (trees_of self.now) number ∷ [] in
             (budget.new ≤ budget.old) × (budget.old ≤ budget.new + scan_cost line.now from allow_a allow_g patterns) }
     {
-        if numbers.len() > u32::MAX as usize {
-            return Err(FindFault::OutOfMemory);
+        let Some(program) = program_at(self.programs.as_slice(), number) else {
+            return Ok(None);
+        };
+        match find(alloc, program, line, from, allow_a, allow_g, budget) {
+            Ok(None) => Ok(None),
+            Ok(Some(caps)) => Ok(Some((0, caps))),
+            Err(fault) => Err(fault),
         }
-        let mut best = None;
-        for (place, number) in numbers.iter().enumerate() {
-            let program = program_at(self.programs.as_slice(), *number);
-            best = earlier_with(
-                alloc,
-                best,
-                place as u32,
-                program,
-                line,
-                from,
-                allow_a,
-                allow_g,
-                budget,
-            )?;
-        }
-        Ok(best)
+    }
+
+    /// As `next`, of the candidates alone: the one that is found earliest, the first of them on a tie, with its
+    /// place among them. A number beyond the patterns is as one whose pattern is unreadable. The candidates are
+    /// those that this scanner made of the patterns that it has.
+    #[tactic(auto, using(crate::proofs::Tried::pass_winner, crate::proofs::Tried::pass_cost))]
+    pub fn next_among(
+        &self,
+        alloc: Global,
+        candidates: &Candidates,
+        line: &Line,
+        from: u32,
+        allow_a: bool,
+        allow_g: bool,
+        budget: &mut u64,
+    ) -> Result<Option<(u32, Caps)>, FindFault>
+        requires candidates { AreCandidates (trees_of self.now) candidates.now }
+        requires small { length line.now < 2 ^ 31 }
+        ensures hit { let patterns = patterns_at (trees_of self.now) candidates.now.numbers.items in
+            IfOk result (λ winner. winner ≡ earliest_winner line.now from allow_a allow_g patterns) }
+        ensures over { let patterns = patterns_at (trees_of self.now) candidates.now.numbers.items in
+            IsErrOf result FindFault.Budget → budget.old < scan_cost line.now from allow_a allow_g patterns }
+        ensures falls { let patterns = patterns_at (trees_of self.now) candidates.now.numbers.items in
+            (budget.new ≤ budget.old) × (budget.old ≤ budget.new + scan_cost line.now from allow_a allow_g patterns) }
+    {
+        let anchors = Anchors {
+            first: from as usize,
+            allow_a,
+            allow_g,
+        };
+        pass(
+            alloc,
+            self.programs.as_slice(),
+            Some(candidates),
+            line,
+            anchors,
+            budget,
+        )
     }
 }
 
@@ -323,11 +259,22 @@ pub fn earliest_pattern()
         IsWinner line from allow_a allow_g patterns winner → earliest_winner line from allow_a allow_g patterns ≡ Some winner }
 {}
 
+/// Law: the first match of one pass over the starts is the winner, and the pass makes a part of the attempts
+/// that the searches of the patterns make one after another.
+#[tactic(auto, using(crate::proofs::Tried::pass_winner, crate::proofs::Tried::pass_cost))]
+pub fn one_pass_is_enough()
+    ensures winner { (line : List ℕ) (from : ℕ) (allow_a allow_g : Bool) (patterns : List (Option Tree)) →
+        (pass_from (subject line from allow_a allow_g) (length line + 1 - from) from patterns).winner ≡ earliest_winner line from allow_a allow_g patterns }
+    ensures cost { (line : List ℕ) (from : ℕ) (allow_a allow_g : Bool) (patterns : List (Option Tree)) →
+        (pass_from (subject line from allow_a allow_g) (length line + 1 - from) from patterns).cost ≤ scan_cost line from allow_a allow_g patterns }
+{}
+
 fn crosses<T: Send + Sync>(value: &T) {
     let _value = value;
 }
 
-/// Scanners may cross and be shared between threads.
-pub fn scanners_cross(scanner: &Scanner) {
+/// Scanners and their lists may cross and be shared between threads.
+pub fn scanners_cross(scanner: &Scanner, candidates: &Candidates) {
     crosses(scanner);
+    crosses(candidates);
 }

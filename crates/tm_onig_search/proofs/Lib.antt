@@ -6,3 +6,4 @@ pub mod Spans
 pub mod Ends
 pub mod Local
 pub mod Least
+pub mod Starts

@@ -4,3 +4,4 @@ pub mod Widths
 pub mod Search
 pub mod Rows
 pub mod Find
+pub mod Starts

@@ -1,14 +1,11 @@
--- The starts of a look-behind, one branch for each, the nearest on top.
-use Rattle.std.proofs.Common.{◌≡◌, ℕ, zero, suc, ◌+◌, ◌-◌, ◌<◌, ◌≤◌, Bool, true, false, Option, Some, None, List, [], min, if◌then◌else◌, refl, sym, ap, ◌∙◌, arith}
+-- The starts of a look-behind, the nearest first.
+use Rattle.std.proofs.Common.{◌≡◌, ℕ, zero, suc, ◌+◌, ◌-◌, ◌<◌, ◌≤◌, Bool, true, false, Option, Some, None, min, if◌then◌else◌, refl, sym, ap, ◌∙◌, arith}
 use Rattle.std.specs.Prelude.{nat_le, ◌&&◌, option_map}
 use Rattle.std.proofs.lemmas.Bool.Decides.{nat_tests}
 use Rattle.tm_onig_search.specs.Outcomes.{Outcome, fail, or_else}
-use Rattle.tm_onig_search.specs.Places.{Subject}
 use Rattle.tm_onig_search.specs.Search.{nearest, width_or, look_back}
 use Rattle.tm_onig_search.proofs.Outcomes.{or_else-fail_right}
 use Rattle.tm_onig_vm.specs.Near.{near}
-use Rattle.tm_onig_vm.specs.Goals.{any_from, Explores, StandsFor}
-use Rattle.tm_onig_vm.specs.declared.goals.Branch.{Branch}
 
 -- n starts from the lowest on were taken up, the last to be tried first
 unfoldable pub tried : (ℕ → Outcome) → ℕ → ℕ → Outcome
@@ -21,20 +18,6 @@ tried_all attempt lowest zero = or_else-fail_right (attempt (lowest + zero))
 tried_all attempt lowest (suc n) =
     let e : lowest + n ≡ lowest + suc n - 1 = omega arith in
     ap (or_else (attempt (lowest + suc n))) (tried_all attempt lowest n ∙ ap (nearest attempt n) e)
-
-pub tried_none : (s : Subject) (attempt : ℕ → Outcome) (lowest n : ℕ) (bs : List Branch) → n ≡ 0 → bs ≡ [] → StandsFor s bs (tried attempt lowest n)
-unfolding tried any_from
-tried_none s attempt lowest n bs none empty = rw (none, empty) (record { outcome = refl; within = tt })
-
-pub tried_more : (s : Subject) (attempt : ℕ → Outcome) (lowest start : ℕ) (old new : List Branch) → lowest ≤ start → StandsFor s old (tried attempt lowest (start - lowest)) →
-    Explores s old new (attempt start) → StandsFor s new (tried attempt lowest (start + 1 - lowest))
-unfolding tried
-tried_more s attempt lowest start old new low was went =
-    let n = start - lowest in
-    let more : suc n ≡ start + 1 - lowest = omega arith in
-    let here : lowest + n ≡ start = omega arith in
-    let top : or_else (attempt start) (tried attempt lowest n) ≡ tried attempt lowest (suc n) = ap (λ (q : ℕ). or_else (attempt q) (tried attempt lowest n)) (sym here) in
-    record { outcome = went.outcome ∙ ap (or_else (attempt start)) was.outcome ∙ top ∙ ap (tried attempt lowest) more; within = went.within was.within }
 
 near_low : (n pos : ℕ) → pos < 0x80000000 → near n ≤ pos → n ≤ pos
 near_low n pos small low = omega arith
@@ -77,7 +60,3 @@ module _ (attempt : ℕ → Outcome) (least : ℕ) (greatest : Option ℕ) (pos 
           let reach = far_true in absurd (omega arith)
       go true false x y = refl
       go false b x y = refl
-
-pub none_left : (s : Subject) (bs : List Branch) (o : Outcome) → bs ≡ [] → o ≡ fail → StandsFor s bs o
-unfolding any_from
-none_left s bs o empty is = rw (empty, is) (record { outcome = refl; within = tt })

@@ -1,5 +1,5 @@
 -- One instruction does what the goals at its place do first.
-use Rattle.std.proofs.Common.{◌≡◌, ℕ, ◌+◌, ◌<◌, ◌≤◌, Bool, true, false, cond, List, [], ◌∷◌, length, map, Option, Some, None, slice_get, slice_set, ◌==◌, nat_lt, true≢false, refl, sym, ap, ◌∙◌, subst, arith}
+use Rattle.std.proofs.Common.{⊎_elim, ◌≡◌, ℕ, ◌+◌, ◌<◌, ◌≤◌, Bool, true, false, cond, List, [], ◌∷◌, length, map, Option, Some, None, slice_get, slice_set, ◌==◌, nat_lt, true≢false, refl, sym, ap, ◌∙◌, subst, arith}
 use Rattle.std.proofs.lemmas.Option.{slice_get_within}
 use Rattle.tm_onig_class.specs.Tree.{Tree, Empty, Char, Any, InSet, Cat, Alt, Group, Atomic, Repeat, Look, Back, Holds, Trees, NoTrees, More}
 use Rattle.tm_onig_search.specs.Outcomes.{Caps, Hit, Outcome, Rest, tick, fail, spend, or_else, accept, prefer}
@@ -14,14 +14,17 @@ use Rattle.std.proofs.lemmas.Bool.Decides.{nat_tests}
 use Rattle.tm_onig_search.specs.Widths.{least_width, greatest_width}
 use Rattle.tm_onig_search.specs.Search.{width_or}
 use Rattle.tm_onig_search.proofs.Reading.{begins_within}
-use Rattle.tm_onig_search.proofs.Ends.{accept_ends, tree_ends}
+use Rattle.tm_onig_search.proofs.Ends.{EndsFrom, accept_ends, tree_ends}
+use Rattle.tm_onig_search.proofs.Hits.{cond_hit, fail_hit}
 use Rattle.tm_onig_search.proofs.Within.{behind_hit}
 use Rattle.tm_onig_vm.specs.Near.{near}
-use Rattle.tm_onig_vm.specs.Steps.{resumed}
-use Rattle.tm_onig_vm.proofs.Alone.{at_ends}
 use Rattle.tm_onig_vm.proofs.Behind.{tried, back_some, back_none}
 use Rattle.tm_onig_vm.specs.Code.{Code, RowCode, AnyCode}
-use Rattle.tm_onig_vm.specs.Machine.{Frame, Do, CloseOf, AgainOf, ArriveOf, Thread, at_pc, Goes, Stands, turn_of, starts, behind_of, goes_if, read_of, exec, frames_rest, Means, AllMean, WaitsFor, ActsFor}
+use Rattle.tm_onig_vm.specs.Machine.{Frame, Do, CloseOf, AgainOf, ArriveOf, Thread, at_pc, Goes, Stands, turn_of, starts, behind_of, goes_if, read_of, exec, frames_rest, Means, AllMean, WaitsFor, ActsFor, resumed}
+
+-- a body that has to end at a position ends there
+at_ends : (s : Subject) (q start : ℕ) → EndsFrom s start (at_goal q accept) start
+at_ends s q start at cs h low high e = ⊎_elim (accept_ends s start at cs h low high) (λ f. absurd (fail_hit h f)) (cond_hit (at == q) (accept at cs) fail h e)
 
 spend_one : (o : Outcome) → tick o ≡ spend 1 o
 spend_one o = ap (λ (c : ℕ). let r : Outcome = record { hit = o.hit; cost = c } in r) (omega arith)

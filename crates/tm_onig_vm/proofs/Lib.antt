@@ -1,9 +1,6 @@
 pub mod Texts
-pub mod Pushed
-pub mod Entered
-pub mod Alone
+pub mod Parts
 pub mod Behind
-pub mod Tracked
 pub mod Sought
 pub mod Near
 pub mod Emitted
@@ -11,3 +8,5 @@ pub mod Instructions
 pub mod Runs
 pub mod Stacked
 pub mod Turns
+pub mod Firsts
+pub mod Known

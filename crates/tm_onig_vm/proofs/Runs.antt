@@ -5,8 +5,7 @@ use Rattle.tm_onig_search.specs.Outcomes.{Caps, Hit, Outcome, fail, tick, spend,
 use Rattle.tm_onig_search.specs.Places.{Subject}
 use Rattle.tm_onig_search.proofs.Outcomes.{or_else_assoc, or_else-fail_left, or_else-fail_right, spend-spend}
 use Rattle.tm_onig_vm.specs.declared.code.Instr.{Instr}
-use Rattle.tm_onig_vm.specs.Steps.{resumed}
-use Rattle.tm_onig_vm.specs.Machine.{Thread, Did, Succeeds, Goes, Waits, at_pc, exec, frames_rest, AllMean, WaitsFor, ActsFor, resumed_threads}
+use Rattle.tm_onig_vm.specs.Machine.{Thread, Did, Succeeds, Goes, Waits, at_pc, exec, frames_rest, AllMean, WaitsFor, ActsFor, resumed, resumed_threads}
 use Rattle.tm_onig_vm.proofs.Instructions.{step}
 
 or_else-spend : (n : ℕ) (a b : Outcome) → or_else (spend n a) b ≡ spend n (or_else a b)

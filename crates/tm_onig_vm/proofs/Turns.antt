@@ -1,5 +1,6 @@
 -- The run so far, over the machine's trail.
-use Rattle.std.proofs.Common.{◌≡◌, ℕ, ◌+◌, ◌<◌, ◌≤◌, List, [], ◌∷◌, ◌++◌, length, Some, None, slice_get, refl, sym, ap, ap₂, ◌∙◌, arith}
+use Rattle.std.proofs.Common.{◌≡◌, ℕ, ◌+◌, ◌<◌, ◌≤◌, List, [], ◌∷◌, ◌++◌, length, Option, Some, None, slice_get, refl, sym, ap, ap₂, ◌∙◌, arith}
+use Rattle.std.specs.Prelude.{MatchOption}
 use Rattle.tm_onig_search.specs.Outcomes.{Caps, Outcome, fail, accept}
 use Rattle.tm_onig_search.specs.Places.{Subject}
 use Rattle.tm_onig_vm.specs.declared.code.Instr.{Instr}
@@ -8,7 +9,7 @@ use Rattle.tm_onig_vm.specs.declared.trail.Trail.{Trail}
 use Rattle.tm_onig_vm.specs.declared.machine.Waiting.{Waiting}
 use Rattle.tm_onig_vm.specs.declared.machine.Acted.TheVariants as A
 use Rattle.tm_onig_vm.specs.Machine.{Thread as Plain, Did, Succeeds, Goes, Waits, Do, at_pc, AllMean, exec, resumed_threads}
-use Rattle.tm_onig_vm.specs.Threads.{plain, plains, numbers_of, groups_under, hit_at, Does, Acts}
+use Rattle.tm_onig_vm.specs.Threads.{plain, plains, numbers_of, groups_under, hit_at, now_threads, Does, Acts}
 use Rattle.tm_onig_class.specs.Tree.{Tree}
 use Rattle.tm_onig_search.specs.Find.{blank}
 use Rattle.tm_onig_search.specs.Search.{search_tree}
@@ -21,6 +22,11 @@ pub run_begins : (s : Subject) (code : List Instr) (threads : List Plain) (o : O
 run_begins s code threads o n none mean =
     let e : n + o.cost ≡ o.cost = omega arith in
     record { rest = o; mean = mean; total = ap (λ (c : ℕ). let r : Outcome = record { hit = o.hit; cost = c } in r) e }
+
+-- the way that goes on is the next one on the trail
+pub next_is : (next : Option Way) (old : List Plain) (new : Trail) (after : Caps) → MatchOption next (old ≡ []) (λ way. old ≡ plain way (numbers_of new) after ∷ plains new after) → old ≡ now_threads next new after
+next_is None old new after is = is
+next_is (Some way) old new after is = is
 
 -- a body that is searched alone, and what goes on after it
 pub record Awaits (s : Subject) (code : List Instr) (o : Outcome) (n : ℕ) (w : Waiting) (numbers : List ℕ) (caps : Caps) (left : List Plain) : Type 0 where
@@ -45,6 +51,14 @@ module _ (s : Subject) (code : List Instr) (small : length s.line < 0x80000000) 
     after_costs cost = go (exec s i (numbers_of trail) way.pos caps) refl
       where
         go : (did : Did) → exec s i (numbers_of trail) way.pos caps ≡ did → Does did (A.Costs cost) way.pos trail caps new after → Runs s code o (n + cost) (plains new after) × (0 < cost)
+        go Succeeds does done = absurd done
+        go (Goes m ts) does done = (rw (done.0, done.1) (R.run_goes s code small o n (plain way (numbers_of trail) caps) (plains trail caps) here i at m ts does), done.2)
+        go (Waits inner negative stays left) does done = absurd done
+
+    pub after_goes : (cost : ℕ) (on : Way) → Acts s i way.pos trail caps new after (A.Goes cost on) → Runs s code o (n + cost) (now_threads (Some on) new after) × (0 < cost)
+    after_goes cost on = go (exec s i (numbers_of trail) way.pos caps) refl
+      where
+        go : (did : Did) → exec s i (numbers_of trail) way.pos caps ≡ did → Does did (A.Goes cost on) way.pos trail caps new after → Runs s code o (n + cost) (now_threads (Some on) new after) × (0 < cost)
         go Succeeds does done = absurd done
         go (Goes m ts) does done = (rw (done.0, done.1) (R.run_goes s code small o n (plain way (numbers_of trail) caps) (plains trail caps) here i at m ts does), done.2)
         go (Waits inner negative stays left) does done = absurd done

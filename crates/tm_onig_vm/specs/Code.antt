@@ -1,4 +1,6 @@
 -- The code of a tree.
+use Rattle.tm_onig_vm.specs.declared.first.Firsts.{Firsts}
+use Rattle.tm_onig_vm.specs.First.{AreFirsts}
 use Rattle.std.specs.Prelude.{◌≡◌, ℕ, ◌+◌, length, Bool, true, false, List, [], ◌∷◌, Some, slice_get, option_map}
 use Rattle.tm_onig_class.specs.Tree.{Tree, Empty, Char, Any, InSet, Cat, Alt, Group, Atomic, Repeat, Look, Back, Holds, Trees, NoTrees, More}
 use Rattle.tm_onig_search.specs.Widths.{least_width, greatest_width}
@@ -68,8 +70,10 @@ Adds old new n = length new ≡ length old + n
 abbrev pub IsCodeOf : List Instr → ℕ → Tree → Type 0
 IsCodeOf code first t = (last : ℕ) × Code code t first last × (slice_get code last ≡ Some I.Accept)
 
--- the code is the tree's and no longer than that, and groups is the highest number of a group
-pub record IsProgramOf (code : List Instr) (first groups : ℕ) (t : Tree) : Type 0 where
+-- The code is the tree's and no longer than that, groups is the highest number of a group, and the tables
+-- are those of the characters that a match may start before.
+pub record IsProgramOf (code : List Instr) (first groups : ℕ) (firsts : Firsts) (t : Tree) : Type 0 where
   pub code_is : IsCodeOf code first t
   pub size_is : length code ≡ code_size t + 1
   pub groups_is : groups ≡ last_group t
+  pub firsts_is : AreFirsts t firsts

@@ -1,14 +1,19 @@
 -- What one instruction does, and what a place in the code stands for.
 use Rattle.std.specs.Prelude.{◌≡◌, ℕ, zero, suc, ◌+◌, ◌-◌, ◌≤◌, min, Bool, true, false, List, [], ◌∷◌, length, map, Option, Some, None, slice_get, slice_set, nat_lt, ◌==◌, if◌then◌else◌}
 use Rattle.tm_onig_class.specs.Tree.{Tree}
-use Rattle.tm_onig_search.specs.Outcomes.{Caps, Hit, Outcome, Rest, tick, fail, spend, or_else, accept}
+use Rattle.tm_onig_search.specs.Outcomes.{Caps, Hit, Outcome, Rest, tick, fail, spend, or_else, accept, and_then, unless}
 use Rattle.tm_onig_search.specs.Places.{Subject, passes, matches, in_set, is_any, begins, holds}
 use Rattle.tm_onig_search.specs.Search.{close, at_goal, is_at, again, last_set, width_or, search_tree}
 use Rattle.std.specs.Prelude.{slice_range, drop}
 use Rattle.tm_onig_vm.specs.declared.code.Instr.{Instr}
 use Rattle.tm_onig_vm.specs.declared.code.Instr.TheVariants as I
 use Rattle.tm_onig_vm.specs.Code.{Code}
-use Rattle.tm_onig_vm.specs.Steps.{resumed}
+
+-- the body alone gave o: whether it must not match, and whether the search goes on where it stood
+abbrev pub resumed : Bool → Bool → Outcome → Rest → Rest
+resumed true stays o k pos caps = unless o (k pos caps)
+resumed false true o k pos caps = and_then o (λ at cs. k pos cs)
+resumed false false o k pos caps = and_then o k
 
 -- a goal as it stands in code: its numbers are on the stack of numbers
 pub data Frame : Type 0 where

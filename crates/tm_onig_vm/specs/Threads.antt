@@ -1,5 +1,5 @@
 -- The ways on the machine's trail as the plain threads.
-use Rattle.std.specs.Prelude.{◌≡◌, ℕ, ◌<◌, List, [], ◌∷◌, ◌++◌, reverse, drop, slice_set}
+use Rattle.std.specs.Prelude.{◌≡◌, ℕ, ◌<◌, List, [], ◌∷◌, ◌++◌, reverse, drop, slice_set, Option, Some, None}
 use Rattle.tm_onig_search.specs.Outcomes.{Caps, Hit}
 use Rattle.tm_onig_search.specs.Places.{Subject}
 use Rattle.tm_onig_vm.specs.declared.code.Instr.{Instr}
@@ -45,16 +45,25 @@ groups_under trail caps = undone (reverse trail.marks.items) caps
 abbrev pub hit_at : Caps → ℕ → Hit
 hit_at caps end = record { end = end; caps = caps }
 
+-- the way that goes on, before the ways on the trail; none: no way is left
+abbrev pub now_threads : Option Way → Trail → Caps → List Plain
+now_threads None trail caps = []
+now_threads (Some way) trail caps = plain way (numbers_of trail) caps ∷ plains trail caps
+
 -- what carrying out an instruction at pos leaves, and what to undo, is what it does
 abbrev pub Does : Did → Acted → ℕ → Trail → Caps → Trail → Caps → Type 0
 Does Succeeds (A.Succeeds end) pos old before new after = (end ≡ pos) × (after ≡ before)
 Does Succeeds (A.Costs n) pos old before new after = ⊥
+Does Succeeds (A.Goes n way) pos old before new after = ⊥
 Does Succeeds (A.Waits w) pos old before new after = ⊥
 Does (Goes cost threads) (A.Succeeds end) pos old before new after = ⊥
 Does (Goes cost threads) (A.Costs n) pos old before new after = (n ≡ cost) × (plains new after ≡ threads ++ plains old before) × (0 < n)
+Does (Goes cost threads) (A.Goes n way) pos old before new after =
+    (n ≡ cost) × (plain way (numbers_of new) after ∷ plains new after ≡ threads ++ plains old before) × (0 < n)
 Does (Goes cost threads) (A.Waits w) pos old before new after = ⊥
 Does (Waits inner negative stays rest) (A.Succeeds end) pos old before new after = ⊥
 Does (Waits inner negative stays rest) (A.Costs n) pos old before new after = ⊥
+Does (Waits inner negative stays rest) (A.Goes n way) pos old before new after = ⊥
 Does (Waits inner negative stays rest) (A.Waits w) pos old before new after =
     (plains w.inner after ≡ inner) × (groups_under w.inner after ≡ after) × (w.negative ≡ negative) × (w.stays ≡ stays)
     × (plain w.rest (numbers_of new) after ≡ rest) × (plains new after ≡ plains old before)

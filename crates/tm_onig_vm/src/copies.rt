@@ -11,9 +11,7 @@ use tm_onig_class::sets::Set;
 pub(crate) fn copy_set(set: &Set) -> Result<Set, OutOfMemory>
     ensures { IfOk result (λ copy. copy ≡ set.now) }
 {
-    let copy = set.union(set)?;
-    copy.same_members(set);
-    Ok(copy)
+    set.copy()
 }
 
 /// An equal pattern.

@@ -11,8 +11,9 @@ ghost use Rattle.tm_onig_vm.specs.Machine.{at_pc, turn_of, behind_of, goes_if, r
 ghost use Rattle.tm_onig_vm.specs.Threads.{plain, plains, numbers_of, groups_under, Does, Acts};
 
 use crate::code::Instr;
-use crate::goals::{group_at, last_set, set_group};
-use crate::places::{Anchors, has_any, has_char, has_member, is_at_place, stands_at, text_of};
+use crate::groups::{group_at, last_set, set_group};
+use crate::places::{has_any, has_char, has_member, is_at_place, stands_at, text_of};
+use crate::starts::Anchors;
 use crate::trail::{
     Mark, Trail, Way, behind_trail, blank_trail, go, go_to_each, put_number, take_number, turn,
 };
@@ -33,45 +34,38 @@ pub struct Waiting {
 pub enum Acted {
     /// The search ends here, and has the groups that are set.
     Succeeds(usize),
-    /// So many cases were entered.
+    /// So many cases were entered, and the next way on the trail goes on.
     Costs(u64),
+    /// So many cases were entered, and this way goes on.
+    Goes(u64, Way),
     Waits(Waiting),
 }
 
 /// Goes on where the test holds.
-fn step_if(trail: &mut Trail, test: bool, next: u32, at: usize) -> Result<Acted, OutOfMemory>
-    ensures does { IfOk result (λ acted. (pos : ℕ) (caps : List (Option (ℕ × ℕ))) → Does (goes_if test (at_pc next (numbers_of trail.old) at caps)) acted pos trail.old caps trail.new caps) }
-    ensures kept { OnOk result ((caps : List (Option (ℕ × ℕ))) → groups_under trail.new caps ≡ groups_under trail.old caps) }
+fn step_if(test: bool, next: u32, at: usize) -> Acted
+    ensures does { (trail : Trail) (pos : ℕ) (caps : List (Option (ℕ × ℕ))) → Does (goes_if test (at_pc next (numbers_of trail) at caps)) result pos trail caps trail caps }
 {
     if test {
-        go(trail, next, at)?;
-        return Ok(Acted::Costs(1));
+        Acted::Goes(1, Way { pc: next, pos: at })
+    } else {
+        Acted::Costs(1)
     }
-    Ok(Acted::Costs(1))
 }
 
 /// Goes on behind the text of the group, where it stands at the position.
-fn read_act(
-    line: &[char],
-    group: Option<(u32, u32)>,
-    fold: bool,
-    next: u32,
-    pos: usize,
-    trail: &mut Trail,
-) -> Result<Acted, OutOfMemory>
+fn read_act(line: &[char], group: Option<(u32, u32)>, fold: bool, next: u32, pos: usize) -> Acted
     requires within { pos ≤ length line.now }
     requires small { length line.now < 2 ^ 31 }
-    ensures does { (s : Subject) (caps : List (Option (ℕ × ℕ))) → s.line ≡ line.now → IfOk result (λ acted.
-        Does (read_of s fold group next (numbers_of trail.old) pos caps) acted pos trail.old caps trail.new caps) }
-    ensures kept { OnOk result ((caps : List (Option (ℕ × ℕ))) → groups_under trail.new caps ≡ groups_under trail.old caps) }
+    ensures does { (s : Subject) (trail : Trail) (caps : List (Option (ℕ × ℕ))) → s.line ≡ line.now →
+        Does (read_of s fold group next (numbers_of trail) pos caps) result pos trail caps trail caps }
 {
     match group {
-        None => Ok(Acted::Costs(1)),
+        None => Acted::Costs(1),
         Some(group) => {
             let text = text_of(line, group.0, group.1);
             let test = stands_at(line, pos, text, fold);
             let at = pos + text.len();
-            step_if(trail, test, next, at)
+            step_if(test, next, at)
         }
     }
 }
@@ -95,8 +89,7 @@ fn close_act(
             let was = group_at(caps, number);
             trail.marks.push(Mark::Group { number, was })?;
             set_group(caps, number, Some((start, pos as u32)));
-            go(trail, next, pos)?;
-            Ok(Acted::Costs(1))
+            Ok(Acted::Goes(1, Way { pc: next, pos }))
         }
     }
 }
@@ -122,11 +115,10 @@ fn again_act(
         return Ok(Acted::Costs(1));
     };
     if pos == start as usize {
-        go(trail, next, pos)?;
-        return Ok(Acted::Costs(1));
+        return Ok(Acted::Goes(1, Way { pc: next, pos }));
     }
-    turn(trail, body, least, greatest, greedy, next, count, pos)?;
-    Ok(Acted::Costs(2))
+    let way = turn(trail, body, least, greatest, greedy, next, count, pos)?;
+    Ok(Acted::Goes(2, way))
 }
 
 #[tactic(auto, unfolding(crate::specs::Machine::exec))]
@@ -138,8 +130,7 @@ fn arrive_act(next: u32, pos: usize, trail: &mut Trail) -> Result<Acted, OutOfMe
         return Ok(Acted::Costs(1));
     };
     if pos == end as usize {
-        go(trail, next, pos)?;
-        return Ok(Acted::Costs(1));
+        return Ok(Acted::Goes(1, Way { pc: next, pos }));
     }
     Ok(Acted::Costs(1))
 }
@@ -165,28 +156,24 @@ pub(crate) fn act(
         Instr::Accept => Ok(Acted::Succeeds(pos)),
         Instr::Char { c, fold, next } => {
             let test = has_char(line, pos, *c, *fold);
-            step_if(trail, test, *next, pos + 1)
+            Ok(step_if(test, *next, pos + 1))
         }
         Instr::Any { newline, next } => {
             let test = has_any(line, pos, *newline);
-            step_if(trail, test, *next, pos + 1)
+            Ok(step_if(test, *next, pos + 1))
         }
         Instr::Member { set, fold, next } => {
             let test = has_member(line, pos, set, *fold);
-            step_if(trail, test, *next, pos + 1)
+            Ok(step_if(test, *next, pos + 1))
         }
-        Instr::Step { next } => {
-            go(trail, *next, pos)?;
-            Ok(Acted::Costs(1))
-        }
+        Instr::Step { next } => { Ok(Acted::Goes(1, Way { pc: *next, pos })) }
         Instr::Choice { targets } => {
             go_to_each(trail, targets.as_slice(), pos)?;
             Ok(Acted::Costs(1))
         }
         Instr::Open { next } => {
             put_number(trail, pos as u32)?;
-            go(trail, *next, pos)?;
-            Ok(Acted::Costs(1))
+            Ok(Acted::Goes(1, Way { pc: *next, pos }))
         }
         Instr::Close { number, next } => close_act(*number, *next, pos, trail, caps),
         Instr::Loop {
@@ -196,8 +183,8 @@ pub(crate) fn act(
             greedy,
             next,
         } => {
-            turn(trail, *body, *least, *greatest, *greedy, *next, 0, pos)?;
-            Ok(Acted::Costs(1))
+            let way = turn(trail, *body, *least, *greatest, *greedy, *next, 0, pos)?;
+            Ok(Acted::Goes(1, way))
         }
         Instr::Again {
             body,
@@ -208,11 +195,11 @@ pub(crate) fn act(
         } => again_act(*body, *least, *greatest, *greedy, *next, pos, trail),
         Instr::Read { groups, fold, next } => {
             let group = last_set(caps, groups.as_slice());
-            read_act(line, group, *fold, *next, pos, trail)
+            Ok(read_act(line, group, *fold, *next, pos))
         }
         Instr::Place { place, next } => {
             let test = is_at_place(line, anchors, *place, pos);
-            step_if(trail, test, *next, pos)
+            Ok(step_if(test, *next, pos))
         }
         Instr::Ahead {
             body,

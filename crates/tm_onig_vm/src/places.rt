@@ -5,18 +5,11 @@ ghost use Rattle.tm_onig_class.specs.Folding.{has_alike};
 ghost use Rattle.tm_onig_search.specs.Places.{passes, matches, in_set, is_any, begins, before, after, is_break, is_word, at_word, holds};
 ghost use Rattle.tm_onig_vm.specs.Anchors.{subject_of};
 
+use crate::starts::Anchors;
 use tm_onig_class::listed;
 use tm_onig_class::patterns::Position;
 use tm_onig_class::sets::Set;
 use ucd_case::simple_fold;
-
-/// Where a search for a match began, and whether `\A` and `\G` may match.
-#[derive(Clone, Copy)]
-pub struct Anchors {
-    pub first: usize,
-    pub allow_a: bool,
-    pub allow_g: bool,
-}
 
 /// Whether the character `c` stands at the position.
 pub(crate) fn has_char(line: &[char], pos: usize, c: char, fold: bool) -> bool

@@ -2,9 +2,10 @@
 //!
 //! Contracts see a program as a pattern, of which they cite the tree. Beside it a program keeps the code
 //! that the machine carries out.
-ghost use Rattle.std.specs.Prelude.{◌≡◌, ℕ, ◌+◌, ◌^◌, ◌<◌, ◌≤◌, length, option_map, OnOk, IfOk, IsErrOf};
+ghost use Rattle.std.specs.Prelude.{◌≡◌, ℕ, ◌+◌, ◌^◌, ◌<◌, ◌≤◌, length, option_map, replicate, List, Option, [], None, OnOk, IfOk, IsErrOf, IsFalse};
 ghost use Rattle.tm_onig_class.specs.Tree.{tree_of};
-ghost use Rattle.tm_onig_search.specs.Find.{at_start, blank, first_match, search_cost};
+ghost use Rattle.tm_onig_search.specs.Find.{at_start, blank, with_whole, first_match, search_cost};
+ghost use Rattle.tm_onig_vm.specs.First.{NeverStarts, next_class};
 ghost use Rattle.tm_onig_vm.specs.Anchors.{subject_of};
 ghost use Rattle.tm_onig_vm.specs.Size.{code_size};
 ghost use Rattle.tm_onig_vm.specs.Threads.{groups_under, hit_at};
@@ -12,12 +13,13 @@ ghost use Rattle.tm_onig_vm.specs.Threads.{groups_under, hit_at};
 use crate::code::{Instr, code_of};
 use crate::copies::copy;
 use crate::fault::FindFault;
-use crate::goals::Found;
-use crate::places::Anchors;
-use crate::plain::{blank_caps, with_whole};
+use crate::first::{Firsts, admits, all_firsts, behind_of};
+use crate::groups::set_group;
 use crate::running::run;
+use crate::starts::{Anchors, class_of, known_behind};
 use crate::trail::{Trail, blank_trail, go, undo_all};
 use crate::widths::last_group;
+use smallvec::SmallVec;
 use std::alloc::Global;
 use std::marker::Model;
 use tm_defs::caps::Caps;
@@ -32,6 +34,7 @@ pub struct Prog {
     code: Vec<Instr>,
     first: u32,
     groups: u32,
+    firsts: Firsts,
 }
 
 impl Model for Prog {
@@ -47,7 +50,7 @@ impl Model for Prog {
 
     ghost view = { λ prog. prog.pattern };
 
-    ghost invariant = { λ prog. IsProgramOf prog.code.items prog.first prog.groups (tree_of prog.pattern) };
+    ghost invariant = { λ prog. IsProgramOf prog.code.items prog.first prog.groups prog.firsts (tree_of prog.pattern) };
 }
 
 /// A program for the pattern.
@@ -62,7 +65,69 @@ pub fn compile(alloc: Global, pattern: &Pattern) -> Result<Prog, OutOfMemory>
         code,
         first,
         groups,
+        firsts: all_firsts(pattern),
     })
+}
+
+impl Prog {
+    /// Whether a match may start behind what `starts::known_behind` says and before a character of the class
+    /// that `starts::class_of` gives.
+    pub fn may_start(&self, behind: Option<bool>, class: u32) -> bool
+        ensures { IsFalse result → (next : Option ℕ) → next_class next ≡ class → NeverStarts (tree_of self.now) behind next }
+    {
+        admits(behind_of(&self.firsts, behind), class)
+    }
+}
+
+/// What searches take beside the line: the trail and the groups of one, which the next one uses again.
+#[derive(Drop)]
+pub struct Room {
+    trail: Trail,
+    caps: SmallVec<Option<(u32, u32)>, 8>,
+}
+
+impl Room {
+    pub fn new(alloc: Global) -> Room {
+        Room {
+            trail: blank_trail(alloc),
+            caps: SmallVec::new(alloc),
+        }
+    }
+}
+
+/// Leaves nothing on the trail.
+fn clear(trail: &mut Trail)
+    ensures marks { trail.new.marks.items ≡ [] }
+    ensures numbers { trail.new.numbers.items ≡ [] }
+{
+    trail.marks.clear();
+    trail.numbers.clear();
+}
+
+/// Sets no group, of so many.
+fn reset(caps: &mut SmallVec<Option<(u32, u32)>, 8>, groups: usize) -> Result<(), OutOfMemory>
+    ensures { OnOk result (caps.new.items ≡ replicate groups None) }
+{
+    caps.clear();
+    for _i in 0..groups {
+        caps.push(None)?;
+    }
+    Ok(())
+}
+
+/// The groups of a match, the whole match first.
+fn groups_of(
+    alloc: Global,
+    groups: &[Option<(u32, u32)>],
+    start: usize,
+    end: usize,
+) -> Result<Caps, OutOfMemory>
+    requires small { (start < 2 ^ 31) × (end < 2 ^ 31) }
+    ensures { IfOk result (λ caps. caps ≡ with_whole start (hit_at groups.now end)) }
+{
+    let mut caps = SmallVec::from_slice(alloc, groups)?;
+    set_group(caps.as_mut_slice(), 0, Some((start as u32, end as u32)));
+    Ok(Caps::new(caps))
 }
 
 /// How many instructions the program has: one to three for each node of the pattern's tree, and one more,
@@ -89,7 +154,6 @@ fn attempt_from(
     requires within { start ≤ length line.now }
     requires blank { groups_under trail.old caps.old ≡ blank (tree_of prog.now) }
     ensures hit { IfOk result (λ found. option_map (hit_at caps.new) found ≡ (at_start (subject_of line.now anchors) (tree_of prog.now) start).hit) }
-    ensures cost { OnOk result (budget.new + (at_start (subject_of line.now anchors) (tree_of prog.now) start).cost ≡ budget.old) }
     ensures over { IsErrOf result FindFault.Budget → budget.old < (at_start (subject_of line.now anchors) (tree_of prog.now) start).cost }
     ensures falls { (budget.new ≤ budget.old) × (budget.old ≤ budget.new + (at_start (subject_of line.now anchors) (tree_of prog.now) start).cost) }
     ensures kept { OnOk result (groups_under trail.new caps.new ≡ blank (tree_of prog.now)) }
@@ -99,12 +163,75 @@ fn attempt_from(
     run(alloc, line, anchors, &prog.code, trail, caps, budget)
 }
 
+/// The groups of the match that starts here, the whole match first, or none where the pattern matches at
+/// another start alone.
+pub fn attempt(
+    alloc: Global,
+    prog: &Prog,
+    line: &Line,
+    anchors: Anchors,
+    start: usize,
+    room: &mut Room,
+    budget: &mut u64,
+) -> Result<Option<Caps>, FindFault>
+    requires small { length line.now < 2 ^ 31 }
+    requires within { start ≤ length line.now }
+    ensures hit { IfOk result (λ found. found ≡ option_map (with_whole start) (at_start (subject_of line.now anchors) (tree_of prog.now) start).hit) }
+    ensures over { IsErrOf result FindFault.Budget → budget.old < (at_start (subject_of line.now anchors) (tree_of prog.now) start).cost }
+    ensures falls { (budget.new ≤ budget.old) × (budget.old ≤ budget.new + (at_start (subject_of line.now anchors) (tree_of prog.now) start).cost) }
+{
+    clear(&mut room.trail);
+    reset(&mut room.caps, prog.groups as usize + 1)?;
+    match attempt_from(
+        alloc,
+        line.as_slice(),
+        anchors,
+        prog,
+        start,
+        &mut room.trail,
+        room.caps.as_mut_slice(),
+        budget,
+    ) {
+        Ok(None) => Ok(None),
+        Ok(Some(end)) => {
+            let caps = groups_of(alloc, room.caps.as_slice(), start, end)?;
+            Ok(Some(caps))
+        }
+        Err(fault) => Err(fault),
+    }
+}
+
+/// As `attempt`, and passes over a start where no match may start.
+fn attempt_if(
+    alloc: Global,
+    prog: &Prog,
+    line: &Line,
+    anchors: Anchors,
+    start: usize,
+    room: &mut Room,
+    budget: &mut u64,
+) -> Result<Option<Caps>, FindFault>
+    requires small { length line.now < 2 ^ 31 }
+    requires within { start ≤ length line.now }
+    ensures hit { IfOk result (λ found. found ≡ option_map (with_whole start) (at_start (subject_of line.now anchors) (tree_of prog.now) start).hit) }
+    ensures over { IsErrOf result FindFault.Budget → budget.old < (at_start (subject_of line.now anchors) (tree_of prog.now) start).cost }
+    ensures falls { (budget.new ≤ budget.old) × (budget.old ≤ budget.new + (at_start (subject_of line.now anchors) (tree_of prog.now) start).cost) }
+{
+    let chars = line.as_slice();
+    let behind = known_behind(chars, anchors, start);
+    let next = class_of(chars.get(start).copied());
+    if !prog.may_start(behind, next) {
+        return Ok(None);
+    }
+    attempt(alloc, prog, line, anchors, start, room, budget)
+}
+
 /// The groups of the match with the least start from `from` on, the whole match first, or none where
 /// the pattern matches at no start up to the line's end. Positions are in characters. `allow_a` and
 /// `allow_g` say whether `\A` may match at 0 and `\G` at `from`.
 ///
 /// Each case of the search that is entered takes one from the budget, which ends the search where it
-/// is used up.
+/// is used up. Starts where no match may start are passed over, and take nothing.
 pub fn find(
     alloc: Global,
     prog: &Prog,
@@ -116,32 +243,19 @@ pub fn find(
 ) -> Result<Option<Caps>, FindFault>
     requires small { length line.now < 2 ^ 31 }
     ensures hit { IfOk result (λ found. found ≡ first_match (tree_of prog.now) line.now from allow_a allow_g) }
-    ensures cost { OnOk result (budget.new + search_cost (tree_of prog.now) line.now from allow_a allow_g ≡ budget.old) }
     ensures over { IsErrOf result FindFault.Budget → budget.old < search_cost (tree_of prog.now) line.now from allow_a allow_g }
     ensures falls { (budget.new ≤ budget.old) × (budget.old ≤ budget.new + search_cost (tree_of prog.now) line.now from allow_a allow_g) }
 {
-    let chars = line.as_slice();
-    let from = from as usize;
     let anchors = Anchors {
-        first: from,
+        first: from as usize,
         allow_a,
         allow_g,
     };
-    let mut trail = blank_trail(alloc);
-    let mut caps = blank_caps(alloc, prog.groups as usize + 1)?;
-    'starts: for start in from..chars.len() + 1 {
-        match attempt_from(
-            alloc,
-            chars,
-            anchors,
-            prog,
-            start,
-            &mut trail,
-            caps.as_mut_slice(),
-            budget,
-        ) {
+    let mut room = Room::new(alloc);
+    for start in from as usize..line.as_slice().len() + 1 {
+        match attempt_if(alloc, prog, line, anchors, start, &mut room, budget) {
             Ok(None) => {}
-            Ok(Some(end)) => return Ok(Some(with_whole(Found { end, caps }, start))),
+            Ok(Some(caps)) => return Ok(Some(caps)),
             Err(fault) => return Err(fault),
         }
     }

@@ -8,7 +8,7 @@ ghost use Rattle.tm_onig_vm.specs.Threads.{plains, groups_under, hit_at};
 use crate::code::Instr;
 use crate::fault::FindFault;
 use crate::machine::{Acted, Waiting, act, instr_at};
-use crate::places::Anchors;
+use crate::starts::Anchors;
 use crate::trail::{Trail, next_way, resume};
 use std::alloc::Global;
 
@@ -31,7 +31,8 @@ pub(crate) fn run(
     ensures falls { (o : Outcome) → AllMean (subject_of line.now anchors) code.now (plains trail.old caps.old) o → (budget.new ≤ budget.old) × (budget.old ≤ budget.new + o.cost) }
     ensures kept { OnOk result (groups_under trail.new caps.new ≡ groups_under trail.old caps.old) }
 {
-    'steps: while let Some(way) = next_way(trail, caps)? {
+    let mut now = next_way(trail, caps)?;
+    'steps: while let Some(way) = now {
         let Some(instr) = instr_at(code, way.pc) else {
             return Ok(None);
         };
@@ -48,6 +49,14 @@ pub(crate) fn run(
                     return Err(FindFault::Budget);
                 }
                 *budget -= cost;
+                now = next_way(trail, caps)?;
+            }
+            Acted::Goes(cost, next) => {
+                if *budget < cost {
+                    return Err(FindFault::Budget);
+                }
+                *budget -= cost;
+                now = Some(next);
             }
             Acted::Waits(waiting) => {
                 if *budget == 0 {
@@ -61,7 +70,10 @@ pub(crate) fn run(
                     rest,
                 } = waiting;
                 match run(alloc, line, anchors, code, &mut inner, caps, budget) {
-                    Ok(found) => resume(trail, caps, inner, negative, stays, rest, found)?,
+                    Ok(found) => {
+                        resume(trail, caps, inner, negative, stays, rest, found)?;
+                        now = next_way(trail, caps)?;
+                    }
                     Err(fault) => return Err(fault),
                 }
             }

@@ -9,8 +9,7 @@ ghost use Rattle.tm_onig_search.specs.Search.{is_at, width_or};
 ghost use Rattle.tm_onig_vm.specs.Machine.{at_pc, turn_of, behind_of, resumed_threads};
 ghost use Rattle.tm_onig_vm.specs.Threads.{plain, plains, numbers_of, groups_under, hit_at};
 
-use crate::goals::{group_at, reaches, set_group};
-use crate::plain::reach;
+use crate::groups::{group_at, set_group};
 use std::alloc::Global;
 use tm_defs::memory::OutOfMemory;
 
@@ -44,6 +43,26 @@ pub enum Mark {
 pub struct Trail {
     pub marks: Vec<Mark>,
     pub numbers: Vec<u32>,
+}
+
+/// Whether so many rounds are the most that a loop may make.
+fn reaches(count: u32, greatest: Option<u32>) -> bool
+    ensures { result ≡ is_at count greatest }
+{
+    match greatest {
+        Some(n) => count == n,
+        None => false,
+    }
+}
+
+/// How far back the starts of a look-behind reach.
+fn reach(greatest: Option<u64>, pos: usize) -> usize
+    ensures { result ≡ min pos (width_or greatest pos) }
+{
+    match greatest {
+        None => pos,
+        Some(width) => (width as usize).min(pos),
+    }
 }
 
 /// Puts a way on top.
@@ -160,10 +179,10 @@ pub(crate) fn go_to_each(trail: &mut Trail, targets: &[u32], pos: usize) -> Resu
     Ok(())
 }
 
-/// Begins a round after `count` others.
-fn go_round(trail: &mut Trail, first: u32, count: u32, pos: usize) -> Result<(), OutOfMemory>
+/// Puts the numbers of a round after `count` others on the stack.
+fn begin_round(trail: &mut Trail, count: u32, pos: usize) -> Result<(), OutOfMemory>
     requires { pos < 2 ^ 31 }
-    ensures ways { OnOk result ((caps : List (Option (ℕ × ℕ))) → plains trail.new caps ≡ at_pc first (pos ∷ (count + 1) ∷ numbers_of trail.old) pos caps ∷ plains trail.old caps) }
+    ensures ways { OnOk result ((caps : List (Option (ℕ × ℕ))) → plains trail.new caps ≡ plains trail.old caps) }
     ensures kept { OnOk result ((caps : List (Option (ℕ × ℕ))) → groups_under trail.new caps ≡ groups_under trail.old caps) }
     ensures numbers { OnOk result (numbers_of trail.new ≡ pos ∷ (count + 1) ∷ numbers_of trail.old) }
 {
@@ -171,11 +190,10 @@ fn go_round(trail: &mut Trail, first: u32, count: u32, pos: usize) -> Result<(),
         return Err(OutOfMemory);
     };
     put_number(trail, count)?;
-    put_number(trail, pos as u32)?;
-    go(trail, first, pos)
+    put_number(trail, pos as u32)
 }
 
-/// A loop that has made `count` rounds.
+/// A loop that has made `count` rounds: the way that goes on.
 pub(crate) fn turn(
     trail: &mut Trail,
     first: u32,
@@ -185,25 +203,29 @@ pub(crate) fn turn(
     next: u32,
     count: u32,
     pos: usize,
-) -> Result<(), OutOfMemory>
+) -> Result<Way, OutOfMemory>
     requires { pos < 2 ^ 31 }
-    ensures ways { OnOk result ((caps : List (Option (ℕ × ℕ))) → plains trail.new caps ≡ turn_of first least greatest greedy next count (numbers_of trail.old) pos caps ++ plains trail.old caps) }
+    ensures ways { IfOk result (λ way. (caps : List (Option (ℕ × ℕ))) → plain way (numbers_of trail.new) caps ∷ plains trail.new caps
+        ≡ turn_of first least greatest greedy next count (numbers_of trail.old) pos caps ++ plains trail.old caps) }
     ensures kept { OnOk result ((caps : List (Option (ℕ × ℕ))) → groups_under trail.new caps ≡ groups_under trail.old caps) }
 {
     if count < least {
-        return go_round(trail, first, count, pos);
+        begin_round(trail, count, pos)?;
+        return Ok(Way { pc: first, pos });
     }
     if reaches(count, greatest) {
-        return go(trail, next, pos);
+        return Ok(Way { pc: next, pos });
     }
     if greedy {
         go(trail, next, pos)?;
-        go_round(trail, first, count, pos)
+        begin_round(trail, count, pos)?;
+        Ok(Way { pc: first, pos })
     } else {
-        go_round(trail, first, count, pos)?;
+        begin_round(trail, count, pos)?;
+        go(trail, first, pos)?;
         let _start = take_number(trail)?;
         let _count = take_number(trail)?;
-        go(trail, next, pos)
+        Ok(Way { pc: next, pos })
     }
 }
 

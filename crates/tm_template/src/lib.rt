@@ -18,11 +18,7 @@
 #![tactic(auto)]
 
 mod captures;
-#[cfg(test)]
-mod cases;
 pub mod ends;
 pub mod laws;
 pub mod names;
 pub mod references;
-#[cfg(test)]
-mod tests;

@@ -32,10 +32,6 @@ pub returns-clause-hit : goal.returns-clause-hit
 returns-clause-hit c =
     let hit = rw c.deref.ensures.value at c.run.ensures.hit in rw (← c.prog.view_is) (hit _ (means (goal.at.returns-clause-hit c).In_ok-go))
 
-pub returns-clause-cost : goal.returns-clause-cost
-returns-clause-cost c =
-    let cost = rw c.deref.ensures.value at c.run.ensures.cost in rw (← c.prog.view_is) (cost _ (means (goal.at.returns-clause-cost c).In_ok-go))
-
 pub returns-clause-over : goal.returns-clause-over
 returns-clause-over c =
     let over = rw c.deref.ensures.value at c.run.ensures.over in rw (← c.prog.view_is) (over _ (means (goal.at.returns-clause-over c).In_ok-go))

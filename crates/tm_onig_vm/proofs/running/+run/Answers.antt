@@ -1,14 +1,15 @@
-use Rattle.std.proofs.Common.{◌≡◌, ℕ, ◌-◌, ◌+◌, ◌<◌, ◌≤◌, ◌++◌, Some, sym, ap, ◌∙◌, subst, arith}
+use Rattle.std.proofs.Common.{◌≡◌, ℕ, ◌-◌, ◌+◌, ◌<◌, ◌≤◌, ◌++◌, Option, List, Some, sym, ap, ◌∙◌, subst, arith}
 use Rattle.tm_onig_search.specs.Outcomes.{Outcome}
 use Rattle.tm_onig_search.specs.Places.{Subject}
 use Rattle.tm_onig_vm.specs.Anchors.{subject_of}
+use Rattle.tm_onig_vm.specs.declared.trail.Way.{Way}
 use Rattle.tm_onig_vm.specs.declared.machine.Waiting.{Waiting}
 use Rattle.tm_onig_vm.specs.declared.machine.Acted.{Acted}
 use Rattle.tm_onig_vm.specs.declared.machine.Acted.TheVariants as A
-use Rattle.tm_onig_vm.specs.Machine.{AllMean, resumed_threads}
-use Rattle.tm_onig_vm.specs.Threads.{plain, plains, numbers_of, groups_under, hit_at, Acts}
+use Rattle.tm_onig_vm.specs.Machine.{Thread, AllMean, resumed_threads}
+use Rattle.tm_onig_vm.specs.Threads.{plain, plains, numbers_of, groups_under, hit_at, now_threads, Acts}
 use Rattle.tm_onig_vm.proofs.Runs.{Runs, run_costs}
-use Rattle.tm_onig_vm.proofs.Turns.{top_within, has_code, Awaits, after_costs, after_success, after_waits}
+use Rattle.tm_onig_vm.proofs.Turns.{top_within, has_code, Awaits, next_is, after_costs, after_goes, after_success, after_waits}
 use Rattle.tm_onig_vm.proofs.running.+run.Goals as goal
 use Rattle.tm_onig_vm.proofs.running.+run.Goals.{In_ok-end}
 
@@ -23,22 +24,27 @@ module _ (t : ℕ) (c : In_ok-end t) where
   Meant o = AllMean s c.args.code.now (plains c.args.trail.now c.args.caps.now) o
 
   abbrev Leaves : Acted → Type 0
-  Leaves acted = Acts s c.in-Some-instr_at.instr.now c.in-Some.way.pos c.next_way.new.trail c.next_way.new.caps c.act.new.trail c.act.new.caps acted
+  Leaves acted = Acts s c.in-Some-instr_at.instr.now c.in-Some.way.pos c.steps.trail c.steps.caps c.act.new.trail c.act.new.caps acted
 
   costed : (o : Outcome) → Meant o → (cost : ℕ) → Leaves (A.Costs cost) → Runs s c.args.code.now o (spent + cost) (plains c.act.new.trail c.act.new.caps) × (0 < cost)
   costed o mean cost acted =
-      after_costs s c.args.code.now c.requires.small o spent (plains c.steps.trail c.steps.caps) c.in-Some.way c.next_way.new.trail c.next_way.new.caps (c.steps.invariant.runs o mean)
-      (rw c.in-Some.is at c.in_ok-way.ensures.ways) c.in-Some-instr_at.instr.now (sym c.in-Some-instr_at.ensures) c.act.new.trail c.act.new.caps cost acted
+      after_costs s c.args.code.now c.requires.small o spent (now_threads c.steps.now c.steps.trail c.steps.caps) c.in-Some.way c.steps.trail c.steps.caps (c.steps.invariant.runs o mean)
+      (ap (λ (n : Option Way). now_threads n c.steps.trail c.steps.caps) c.in-Some.is) c.in-Some-instr_at.instr.now (sym c.in-Some-instr_at.ensures) c.act.new.trail c.act.new.caps cost acted
+
+  gone : (o : Outcome) → Meant o → (cost : ℕ) (on : Way) → Leaves (A.Goes cost on) → Runs s c.args.code.now o (spent + cost) (now_threads (Some on) c.act.new.trail c.act.new.caps) × (0 < cost)
+  gone o mean cost on acted =
+      after_goes s c.args.code.now c.requires.small o spent (now_threads c.steps.now c.steps.trail c.steps.caps) c.in-Some.way c.steps.trail c.steps.caps (c.steps.invariant.runs o mean)
+      (ap (λ (n : Option Way). now_threads n c.steps.trail c.steps.caps) c.in-Some.is) c.in-Some-instr_at.instr.now (sym c.in-Some-instr_at.ensures) c.act.new.trail c.act.new.caps cost on acted
 
   succeeded : (o : Outcome) → Meant o → (end : ℕ) → Leaves (A.Succeeds end) → (o.hit ≡ Some (hit_at c.act.new.caps end)) × (o.cost ≡ spent + 1)
   succeeded o mean end acted =
-      after_success s c.args.code.now c.requires.small o spent (plains c.steps.trail c.steps.caps) c.in-Some.way c.next_way.new.trail c.next_way.new.caps (c.steps.invariant.runs o mean)
-      (rw c.in-Some.is at c.in_ok-way.ensures.ways) c.in-Some-instr_at.instr.now (sym c.in-Some-instr_at.ensures) c.act.new.trail c.act.new.caps end acted
+      after_success s c.args.code.now c.requires.small o spent (now_threads c.steps.now c.steps.trail c.steps.caps) c.in-Some.way c.steps.trail c.steps.caps (c.steps.invariant.runs o mean)
+      (ap (λ (n : Option Way). now_threads n c.steps.trail c.steps.caps) c.in-Some.is) c.in-Some-instr_at.instr.now (sym c.in-Some-instr_at.ensures) c.act.new.trail c.act.new.caps end acted
 
   waited : (o : Outcome) → Meant o → (w : Waiting) → Leaves (A.Waits w) → Awaits s c.args.code.now o spent w (numbers_of c.act.new.trail) c.act.new.caps (plains c.act.new.trail c.act.new.caps)
   waited o mean w acted =
-      after_waits s c.args.code.now c.requires.small o spent (plains c.steps.trail c.steps.caps) c.in-Some.way c.next_way.new.trail c.next_way.new.caps (c.steps.invariant.runs o mean)
-      (rw c.in-Some.is at c.in_ok-way.ensures.ways) c.in-Some-instr_at.instr.now (sym c.in-Some-instr_at.ensures) c.act.new.trail c.act.new.caps w acted
+      after_waits s c.args.code.now c.requires.small o spent (now_threads c.steps.now c.steps.trail c.steps.caps) c.in-Some.way c.steps.trail c.steps.caps (c.steps.invariant.runs o mean)
+      (ap (λ (n : Option Way). now_threads n c.steps.trail c.steps.caps) c.in-Some.is) c.in-Some-instr_at.instr.now (sym c.in-Some-instr_at.ensures) c.act.new.trail c.act.new.caps w acted
 
   waited_cost : (o : Outcome) (mean : Meant o) (w : Waiting) (acted : Leaves (A.Waits w)) → spent + 1 + (waited o mean w acted).alone.cost ≤ o.cost
   waited_cost o mean w acted =
@@ -47,22 +53,22 @@ module _ (t : ℕ) (c : In_ok-end t) where
 
   -- the groups so far are those that the run began with, when all is undone
   kept : groups_under c.act.new.trail c.act.new.caps ≡ groups_under c.args.trail.now c.args.caps.now
-  kept = c.in_ok-end.ensures.kept ∙ c.in_ok-way.ensures.kept ∙ c.steps.invariant.kept
+  kept = c.in_ok-end.ensures.kept ∙ c.steps.invariant.kept
 
 pub returns-in_default-instr_at-clause-hit : goal.returns-in_default-instr_at-clause-hit
 returns-in_default-instr_at-clause-hit t c = λ o mean.
-    absurd (has_code (subject_of c.args.line.now c.args.anchors) c.args.code.now c.requires.small o (c.args.budget.now - c.steps.budget) _ c.in-Some.way c.next_way.new.trail c.next_way.new.caps
-    (c.steps.invariant.runs o mean) (rw c.in-Some.is at c.in_ok-way.ensures.ways) (sym c.in_default-instr_at.ensures))
+    absurd (has_code (subject_of c.args.line.now c.args.anchors) c.args.code.now c.requires.small o (c.args.budget.now - c.steps.budget) _ c.in-Some.way c.steps.trail c.steps.caps
+    (c.steps.invariant.runs o mean) (ap (λ (n : Option Way). now_threads n c.steps.trail c.steps.caps) c.in-Some.is) (sym c.in_default-instr_at.ensures))
 
 pub returns-in_default-instr_at-clause-cost : goal.returns-in_default-instr_at-clause-cost
 returns-in_default-instr_at-clause-cost t c = λ o mean.
-    absurd (has_code (subject_of c.args.line.now c.args.anchors) c.args.code.now c.requires.small o (c.args.budget.now - c.steps.budget) _ c.in-Some.way c.next_way.new.trail c.next_way.new.caps
-    (c.steps.invariant.runs o mean) (rw c.in-Some.is at c.in_ok-way.ensures.ways) (sym c.in_default-instr_at.ensures))
+    absurd (has_code (subject_of c.args.line.now c.args.anchors) c.args.code.now c.requires.small o (c.args.budget.now - c.steps.budget) _ c.in-Some.way c.steps.trail c.steps.caps
+    (c.steps.invariant.runs o mean) (ap (λ (n : Option Way). now_threads n c.steps.trail c.steps.caps) c.in-Some.is) (sym c.in_default-instr_at.ensures))
 
 pub act-requires-clause-within : goal.act-requires-clause-within
 act-requires-clause-within t c =
-    top_within (subject_of c.args.line.now c.args.anchors) c.args.code.now c.requires.small c.requires.stands.0 (c.args.budget.now - c.steps.budget) _ c.in-Some.way c.next_way.new.trail c.next_way.new.caps
-    (c.steps.invariant.runs c.requires.stands.0 c.requires.stands.1) (rw c.in-Some.is at c.in_ok-way.ensures.ways)
+    top_within (subject_of c.args.line.now c.args.anchors) c.args.code.now c.requires.small c.requires.stands.0 (c.args.budget.now - c.steps.budget) _ c.in-Some.way c.steps.trail c.steps.caps
+    (c.steps.invariant.runs c.requires.stands.0 c.requires.stands.1) (ap (λ (n : Option Way). now_threads n c.steps.trail c.steps.caps) c.in-Some.is)
 
 pub returns-then-budget-eq0-clause-over : goal.returns-then-budget-eq0-clause-over
 returns-then-budget-eq0-clause-over t c = λ o mean _.
@@ -100,12 +106,42 @@ steps-preserved-in-Costs t c =
     let enough = c.if-budget-cost.false in
     let falls = c.steps.invariant.falls in
     let e : spent t r + c.in-Costs.cost ≡ c.args.budget.now - (c.steps.budget - c.in-Costs.cost) = omega arith in
+    let next = next_is c.in_ok-now-in-Costs.now (plains c.act.new.trail c.act.new.caps) c.next_way-in-Costs.new.trail c.next_way-in-Costs.new.caps c.in_ok-now-in-Costs.ensures.ways in
     record {
       runs = λ o mean.
-          subst (λ (n : ℕ). Runs (s t r) c.args.code.now o n (plains c.act.new.trail c.act.new.caps)) e (costed t r o mean c.in-Costs.cost (rw c.in-Costs.is at c.in_ok-end.ensures.does)).0;
+          subst (λ (ts : List Thread). Runs (s t r) c.args.code.now o (c.args.budget.now - (c.steps.budget - c.in-Costs.cost)) ts) next
+          (subst (λ (n : ℕ). Runs (s t r) c.args.code.now o n (plains c.act.new.trail c.act.new.caps)) e (costed t r o mean c.in-Costs.cost (rw c.in-Costs.is at c.in_ok-end.ensures.does)).0);
+      falls = omega arith;
+      kept = c.in_ok-now-in-Costs.ensures.kept ∙ kept t r;
+    }
+
+pub returns-in_err-now-in-Costs-clause-falls : goal.returns-in_err-now-in-Costs-clause-falls
+returns-in_err-now-in-Costs-clause-falls t c = λ o mean.
+    let r = (goal.at.returns-in_err-now-in-Costs-clause-falls t c).In_ok-end in
+    let on = costed t r o mean c.in-Costs.cost (rw c.in-Costs.is at c.in_ok-end.ensures.does) in
+    let more = run_costs (s t r) c.args.code.now o (spent t r + c.in-Costs.cost) (plains c.act.new.trail c.act.new.caps) on.0 in
+    let enough = c.if-budget-cost.false in let falls = c.steps.invariant.falls in (omega arith, omega arith)
+
+pub steps-preserved-in-Goes : goal.steps-preserved-in-Goes
+steps-preserved-in-Goes t c =
+    let r = (goal.at.steps-preserved-in-Goes t c).In_ok-end in
+    let enough = c.if-budget-cost-2.false in
+    let falls = c.steps.invariant.falls in
+    let e : spent t r + c.in-Goes.cost ≡ c.args.budget.now - (c.steps.budget - c.in-Goes.cost) = omega arith in
+    record {
+      runs = λ o mean.
+          subst (λ (n : ℕ). Runs (s t r) c.args.code.now o n (now_threads (Some c.in-Goes.next) c.act.new.trail c.act.new.caps)) e
+          (gone t r o mean c.in-Goes.cost c.in-Goes.next (rw c.in-Goes.is at c.in_ok-end.ensures.does)).0;
       falls = omega arith;
       kept = kept t r;
     }
+
+pub returns-then-budget-cost-2-clause-over : goal.returns-then-budget-cost-2-clause-over
+returns-then-budget-cost-2-clause-over t c = λ o mean _.
+    let r = (goal.at.returns-then-budget-cost-2-clause-over t c).In_ok-end in
+    let on = gone t r o mean c.in-Goes.cost c.in-Goes.next (rw c.in-Goes.is at c.in_ok-end.ensures.does) in
+    let more = run_costs (s t r) c.args.code.now o (spent t r + c.in-Goes.cost) (now_threads (Some c.in-Goes.next) c.act.new.trail c.act.new.caps) on.0 in
+    let less = c.if-budget-cost-2.true in let falls = c.steps.invariant.falls in omega arith
 
 pub returns-then-budget-eq0-2-clause-over : goal.returns-then-budget-eq0-2-clause-over
 returns-then-budget-eq0-2-clause-over t c = λ o mean _.
@@ -138,17 +174,29 @@ steps-preserved t c =
     let fell = c.in-Ok.ensures.falls first.alone first.mean in
     let before : groups_under c.run.new.trail c.run.new.caps ≡ c.act.new.caps = c.in-Ok.ensures.kept ∙ first.same in
     let numbers = numbers_of c.act.new.trail in
+    let next = next_is c.in_ok-now-in-Ok.now (plains c.resume.new.trail c.resume.new.caps) c.next_way-in-Ok.new.trail c.next_way-in-Ok.new.caps c.in_ok-now-in-Ok.ensures.ways in
     record {
       runs = λ o mean.
           let w = waited t r o mean c.in-Waits.waiting (rw c.in-Waits.is at c.in_ok-end.ensures.does) in
           let paid = c.in-Ok.ensures.cost w.alone w.mean in
           let hit = c.in-Ok.ensures.hit w.alone w.mean in
           let e : spent t r + 1 + w.alone.cost ≡ c.args.budget.now - c.run.new.budget = omega arith in
+          let here : Runs (s t r) c.args.code.now o (c.args.budget.now - c.run.new.budget) (plains c.resume.new.trail c.resume.new.caps) =
           rw (c.in_ok-resume-in-Ok.ensures.ways, before, hit) (subst (λ (n : ℕ). Runs (s t r) c.args.code.now o n
-          (resumed_threads c.in-Waits.waiting.negative c.in-Waits.waiting.stays w.alone.hit (plain c.in-Waits.waiting.rest numbers c.act.new.caps) ++ plains c.act.new.trail c.act.new.caps)) e w.on);
+          (resumed_threads c.in-Waits.waiting.negative c.in-Waits.waiting.stays w.alone.hit (plain c.in-Waits.waiting.rest numbers c.act.new.caps) ++ plains c.act.new.trail c.act.new.caps)) e w.on) in
+          subst (λ (ts : List Thread). Runs (s t r) c.args.code.now o (c.args.budget.now - c.run.new.budget) ts) next here;
       falls = omega arith;
-      kept = c.in_ok-resume-in-Ok.ensures.kept ∙ ap (groups_under c.act.new.trail) before ∙ kept t r;
+      kept = c.in_ok-now-in-Ok.ensures.kept ∙ c.in_ok-resume-in-Ok.ensures.kept ∙ ap (groups_under c.act.new.trail) before ∙ kept t r;
     }
+
+pub returns-in_err-now-in-Ok-clause-falls : goal.returns-in_err-now-in-Ok-clause-falls
+returns-in_err-now-in-Ok-clause-falls t c = λ o mean.
+    let r = (goal.at.returns-in_err-now-in-Ok-clause-falls t c).In_ok-end in
+    let acted = rw c.in-Waits.is at c.in_ok-end.ensures.does in
+    let w = waited t r o mean c.in-Waits.waiting acted in
+    let more = waited_cost t r o mean c.in-Waits.waiting acted in
+    let paid = c.in-Ok.ensures.cost w.alone w.mean in
+    let some = c.if-budget-eq0-2.false in let falls = c.steps.invariant.falls in (omega arith, omega arith)
 
 pub returns-in_err-resume-in-Ok-clause-falls : goal.returns-in_err-resume-in-Ok-clause-falls
 returns-in_err-resume-in-Ok-clause-falls t c = λ o mean.

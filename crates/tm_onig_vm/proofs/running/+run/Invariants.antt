@@ -2,7 +2,7 @@ use Rattle.std.proofs.Common.{◌≡◌, ◌-◌, ◌≤◌}
 use Rattle.tm_onig_search.specs.Outcomes.{Outcome}
 use Rattle.tm_onig_vm.specs.Anchors.{subject_of}
 use Rattle.tm_onig_vm.specs.Machine.{AllMean}
-use Rattle.tm_onig_vm.specs.Threads.{plains, groups_under}
+use Rattle.tm_onig_vm.specs.Threads.{plains, groups_under, now_threads}
 use Rattle.tm_onig_vm.proofs.Runs.{Runs}
 use Rattle.tm_onig_vm.proofs.running.+run.Given as goal
 
@@ -11,7 +11,7 @@ decreases-run l = l.budget.now
 
 abbrev pub invariant-steps : goal.invariant-steps
 invariant-steps l = record {
-  runs : (o : Outcome) → AllMean (subject_of l.line l.anchors) l.code (plains l.fn.trail l.fn.caps) o → Runs (subject_of l.line l.anchors) l.code o (l.fn.budget - l.budget) (plains l.trail l.caps);
+  runs : (o : Outcome) → AllMean (subject_of l.line l.anchors) l.code (plains l.fn.trail l.fn.caps) o → Runs (subject_of l.line l.anchors) l.code o (l.fn.budget - l.budget) (now_threads l.now l.trail l.caps);
   falls : l.budget ≤ l.fn.budget;
   kept : groups_under l.trail l.caps ≡ groups_under l.fn.trail l.fn.caps;
 }
