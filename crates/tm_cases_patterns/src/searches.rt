@@ -31,7 +31,7 @@ fn groups(alloc: Global, caps: &[Option<(u32, u32)>]) -> Result<String, AllocErr
     Ok(text)
 }
 
-/// The first match of a pattern in a line, from 0, and how much of the budget was taken.
+/// The first match of a pattern in a line, from 0, under a budget.
 fn first_match(
     alloc: Global,
     pattern: &Pattern,
@@ -44,20 +44,15 @@ fn first_match(
         return Err(CaseFault::OutOfMemory);
     };
     let mut left = budget;
-    let found = find(alloc, &prog, line, 0, true, true, &mut left);
-    let cost = budget.saturating_sub(left);
-    match found {
-        Ok(Some(caps)) => {
-            let text = groups(alloc, caps.as_slice())?;
-            Ok(format!(in alloc; "{text}; {cost}")?)
-        }
-        Ok(None) => Ok(format!(in alloc; "none; {cost}")?),
+    match find(alloc, &prog, line, 0, true, true, &mut left) {
+        Ok(Some(caps)) => Ok(groups(alloc, caps.as_slice())?),
+        Ok(None) => Ok(String::from_str(alloc, "none")?),
         Err(FindFault::Budget) => Ok(String::from_str(alloc, "budget")?),
         Err(FindFault::OutOfMemory) => Err(CaseFault::OutOfMemory),
     }
 }
 
-/// `search PATTERN, LINE, BUDGET`: the first match, and its cost.
+/// `search PATTERN, LINE, BUDGET`: the first match.
 pub(crate) fn search(alloc: Global, case: &Case) -> Result<String, CaseFault> {
     let Some(pattern) = read(alloc, chars(alloc, case.text(0)?)?)? else {
         return unreadable(alloc);
