@@ -1,5 +1,5 @@
 -- Where no match may start, none does.
-use Rattle.std.proofs.Common.{◌≡◌, ℕ, zero, suc, ◌+◌, ◌-◌, ◌<◌, ◌≤◌, Bool, true, false, cond, List, length, Option, Some, None, slice_get, ◌==◌, nat_lt, ◌&&◌, ◌||◌, ◌⊎◌, inl, inr, ⊎_elim, refl, sym, ap, subst, ◌∙◌, arith, true≢false, eq-eqb}
+use Rattle.std.proofs.Common.{◌≡◌, ℕ, zero, suc, ◌+◌, ◌<◌, Bool, true, false, cond, List, length, Option, Some, None, slice_get, ◌==◌, nat_lt, ◌&&◌, ◌||◌, ◌⊎◌, inl, inr, ⊎_elim, refl, sym, ap, subst, ◌∙◌, arith, true≢false, eq-eqb}
 use Rattle.std.specs.Prelude.{not}
 use Rattle.std.proofs.lemmas.Option.{slice_get_within}
 use Rattle.std.proofs.lemmas.Bool.Decides.{nat_tests}
@@ -10,11 +10,11 @@ use Rattle.tm_onig_class.specs.Listed.{in_listed}
 use Rattle.tm_onig_class.specs.Tree.{Tree, Empty, Char, Any, InSet, Cat, Alt, Group, Atomic, Repeat, Look, Back, Holds, Trees, NoTrees, More}
 use Rattle.tm_onig_search.specs.Widths.{least_width}
 use Rattle.tm_onig_search.specs.Widths.{greatest_width}
-use Rattle.tm_onig_search.specs.Outcomes.{Caps, Hit, Outcome, Rest, fail, tick, accept, looked}
-use Rattle.tm_onig_search.specs.Places.{Subject, passes, holds, matches, in_set, is_any, is_word, is_break, before, at_word}
+use Rattle.tm_onig_search.specs.Outcomes.{Caps, Hit, Outcome, Rest, fail, accept, looked}
+use Rattle.tm_onig_search.specs.Places.{Subject, passes, holds, is_word, is_break, before, at_word}
 use Rattle.tm_onig_search.specs.Search.{one, close, look_back, at_goal, choose, rounds, search_tree, search_row, search_any}
 use Rattle.tm_onig_search.specs.Find.{at_start, blank}
-use Rattle.tm_onig_search.specs.Starts.{may_pass, IsBehind, Sits, may_hold, may_start, may_start_row, may_start_any}
+use Rattle.tm_onig_search.specs.Starts.{may_pass, Sits, may_hold, may_start, may_start_row, may_start_any}
 use Rattle.tm_onig_search.proofs.Hits.{or_else_hit, choose_hit, cond_hit, then_hit, if_none_hit, fail_hit}
 
 or_left : (a b : Bool) → (a || b) ≡ false → a ≡ false
