@@ -1,6 +1,7 @@
 //! Stores: what is kept of each line, step by step.
 ghost use Rattle.std.specs.Prelude.{◌<◌, IfOk};
 
+use crate::callers::first_is_done;
 use crate::values::{list, number, number_at, text_at};
 use serde_json::Value;
 use std::alloc::Global;
@@ -44,6 +45,16 @@ fn put(alloc: Global, store: &mut Store<u32>, step: &[Value]) -> Result<(), Case
     store.reserve(2).map_err(want)?;
     store.put(i, tokens, end);
     Ok(())
+}
+
+/// The first line is done, by the proved caller.
+fn first(alloc: Global, store: &mut Store<u32>, step: &[Value]) -> Result<(), CaseFault> {
+    let tokens = one_token(alloc, number_at(step, 1)?)?;
+    let end = number_at(step, 2)?;
+    if store.len() == 0 {
+        return Err(CaseFault::NoField);
+    }
+    first_is_done(store, tokens, end).map_err(want)
 }
 
 fn guess(alloc: Global, store: &mut Store<u32>, step: &[Value]) -> Result<(), CaseFault> {
@@ -134,6 +145,7 @@ fn step(
 ) -> Result<Option<String>, CaseFault> {
     match text_at(step, 0)? {
         "put" => put(alloc, store, step)?,
+        "first" => first(alloc, store, step)?,
         "guess" => guess(alloc, store, step)?,
         "block" => block(store, step)?,
         "replace" => replace(store, step)?,

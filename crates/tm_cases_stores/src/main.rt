@@ -1,6 +1,7 @@
 //! Answers cases of stores and texts: a case a line on the standard input, an answer a line on the standard output.
 #![tactic(auto)]
 
+mod callers;
 mod entries;
 mod texts;
 mod values;

@@ -1,5 +1,6 @@
 //! Texts: bytes that are read, and changes one after another.
 
+use crate::callers::by_a_plan;
 use crate::values::{list, number, number_at, text_at};
 use serde_json::Value;
 use std::alloc::Global;
@@ -139,6 +140,13 @@ fn step(alloc: Global, text: &mut Text, step: &[Value]) -> Result<String, CaseFa
         "apply" => {
             let change = change_of(alloc, step)?;
             apply(alloc, text, &change)
+        }
+        "planned" => {
+            let change = change_of(alloc, step)?;
+            match by_a_plan(text, &change) {
+                Ok(effect) => effect_text(alloc, effect),
+                Err(fault) => refusal(alloc, fault),
+            }
         }
         "plan" => {
             let change = change_of(alloc, step)?;
