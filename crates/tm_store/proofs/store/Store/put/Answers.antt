@@ -1,0 +1,18 @@
+use Rattle.std.proofs.Common.{arith, ap, ◌∙◌, sym, length, ◌≡◌, ◌+◌, ℕ, false}
+use Rattle.std.specs.Prelude.{if◌then◌else◌, nat_lt}
+use Rattle.tm_store.specs.Spans.{runs}
+use Rattle.tm_store.proofs.Marks.{stored-runs, length-put}
+use Rattle.tm_store.proofs.store.Store.put.Goals as goal
+
+pub invariant_of-self : goal.invariant_of-self
+invariant_of-self g c =
+    let same-length = ap length c.put_entry.ensures ∙ length-put c.self.inside.entries.items c.args.i c.args.tokens c.args.end c.is_same_end-same.result in
+    let within = ap (λ h. length h.entries) c.self.view_is in (
+      c.put_runs.ensures.items
+          ∙ stored-runs c.self.inside.bad.items c.self.inside.entries.items c.args.i c.args.tokens c.args.end c.is_same_end-same.result c.has_next-next.result c.self.invariant.0 (omega (arith, within, c.requires.within))
+          (c.has_next-next.ensures ∙ ap (λ (n : ℕ). if c.is_same_end-same.result then false else nat_lt (c.args.i + 1) n) (let l : c.len.result ≡ length c.self.inside.entries.items = omega arith in l))
+          ∙ ap (runs 0) (sym c.put_entry.ensures),
+      omega (arith, same-length, c.self.invariant.1),
+      omega (arith, same-length, c.self.invariant.2),
+      omega (arith, c.self.invariant.3),
+    )

@@ -1,0 +1,4 @@
+pub mod LineReads
+pub mod ReadBytes
+pub mod Sizes
+pub mod SplitLines
