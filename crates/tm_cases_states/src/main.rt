@@ -3,17 +3,20 @@
 #![tactic(auto)]
 
 mod scopes;
+mod states;
 mod values;
 
 use std::alloc::Global;
 use std::io;
 use tm_cases::{Case, CaseFault, one_line};
 use tm_scope::scopes::ScopeTable;
+use tm_state::states::StateTable;
 
 /// The tables that the cases work on.
 #[derive(Drop)]
 struct Tables {
     scopes: ScopeTable,
+    states: StateTable,
 }
 
 /// The answer to a line; a line that is no case is its own.
@@ -30,6 +33,16 @@ fn answer(alloc: Global, tables: &mut Tables, line: &str) -> Result<String, Case
         "path" => scopes::path(alloc, &mut tables.scopes, &case)?,
         "names" => scopes::names(alloc, &tables.scopes, &case)?,
         "counts" => scopes::counts(alloc, &tables.scopes)?,
+        "states" => states::begin(alloc, &mut tables.states, &case)?,
+        "put" => states::put(alloc, &mut tables.states, &case)?,
+        "frames" => states::frames(alloc, &tables.states, &case)?,
+        "same" => states::same(alloc, &tables.states, &case)?,
+        "diff" => states::diff(alloc, &tables.states, &case)?,
+        "apply" => states::apply(alloc, &mut tables.states, &case)?,
+        "again" => states::again(alloc, &mut tables.states, &case)?,
+        "top" => states::top(alloc, &tables.states, &case)?,
+        "reintern" => states::reintern(alloc, &mut tables.states, &case)?,
+        "sizes" => states::sizes(alloc, &tables.states)?,
         _ => return Err(CaseFault::NoCommand),
     };
     one_line(alloc, text.as_str())
@@ -40,7 +53,10 @@ fn main(rt: HostRuntime) -> io::Result<()> {
     let Ok(scopes) = ScopeTable::new(alloc, 1) else {
         return Ok(());
     };
-    let mut tables = Tables { scopes };
+    let Ok(states) = StateTable::new(alloc, 1) else {
+        return Ok(());
+    };
+    let mut tables = Tables { scopes, states };
     for line in rt.lines(alloc) {
         let line = line?;
         match answer(alloc, &mut tables, line.as_str()) {

@@ -68,7 +68,7 @@ pub fn last(alloc: Global, table: &ScopeTable, case: &Case) -> Result<String, Ca
 
 /// `path NAMES`, or `path NAMES, LIMIT`: a whole list.
 pub fn path(alloc: Global, table: &mut ScopeTable, case: &Case) -> Result<String, CaseFault> {
-    let path = path_of(alloc, case.text(0)?)?;
+    let path = path_of(alloc, case.text(0)?, ' ')?;
     let limit = if case.len() == 1 {
         table.limit()
     } else {
@@ -85,7 +85,7 @@ pub fn names(alloc: Global, table: &ScopeTable, case: &Case) -> Result<String, C
     }
     let path = table.names(ScopeList(list)).map_err(refused)?;
     let mut text = String::new(alloc);
-    write_path(&mut text, &path)?;
+    write_path(&mut text, &path, ' ')?;
     Ok(text)
 }
 

@@ -23,10 +23,10 @@ pub fn name_of(alloc: Global, text: &str) -> Result<Name, CaseFault> {
     Ok(Name::new(chars))
 }
 
-/// The names of a text, which stand between spaces.
-pub fn path_of(alloc: Global, text: &str) -> Result<ScopePath, CaseFault> {
+/// The names of a text, with a separator between them.
+pub fn path_of(alloc: Global, text: &str, between: char) -> Result<ScopePath, CaseFault> {
     let mut names = Vec::new(alloc);
-    for word in text.split(' ') {
+    for word in text.split(between) {
         if !word.is_empty() {
             names.push(name_of(alloc, word)?)?;
         }
@@ -41,12 +41,12 @@ pub fn write_name(into: &mut String, name: &Name) -> Result<(), CaseFault> {
     Ok(())
 }
 
-/// The names with a space between them.
-pub fn write_path(into: &mut String, path: &ScopePath) -> Result<(), CaseFault> {
+/// The names with a separator between them.
+pub fn write_path(into: &mut String, path: &ScopePath, between: char) -> Result<(), CaseFault> {
     let mut first = true;
     for name in path.as_slice() {
         if !first {
-            into.push(' ')?;
+            into.push(between)?;
         }
         first = false;
         write_name(into, name)?;
