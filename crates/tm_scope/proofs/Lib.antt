@@ -1,0 +1,9 @@
+pub mod Keys
+pub mod Taken
+pub mod Linked
+pub mod Pushed
+pub mod MoreTexts
+pub mod Limits
+pub mod Closed
+pub mod PushedText
+pub mod WholePath

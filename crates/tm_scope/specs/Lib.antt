@@ -1,0 +1,4 @@
+pub mod Numbered
+pub mod Links
+pub mod Entries
+pub mod Scopes

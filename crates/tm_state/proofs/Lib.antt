@@ -1,0 +1,10 @@
+pub mod Grown
+pub mod Interned
+pub mod Under
+pub mod Full
+pub mod Parts
+pub mod FrameParts
+pub mod WithFrame
+pub mod Whole
+pub mod Difference
+pub mod Led
