@@ -1,5 +1,5 @@
 -- A good run is done.
-use Rattle.std.proofs.Common.{◌≡◌, ℕ, ◌<◌, ◌≤◌, List, [], ◌∷◌, ◌++◌, length, Option, Some, None, Bool, true, false, Result, Ok as Good, Err, arith, refl, ap, ◌∙◌, sym, subst}
+use Rattle.std.proofs.Common.{◌≡◌, ℕ, ◌≤◌, List, [], ◌∷◌, ◌++◌, length, Option, Some, None, Bool, true, false, Result, Ok as Good, Err, arith, refl, ap, ◌∙◌, sym, subst}
 use Rattle.tm_app.specs.declared.status.What.TheVariants.{NotJson, BadShape, NotYet, TooManyRules, BadPlace}
 use Rattle.tm_app.specs.declared.status.Status.{Status}
 use Rattle.tm_app.specs.declared.status.Status.TheVariants.{Ok, Usage, FileFault, Refused, SinkFault, OutOfMemory, BudgetSeen, TableFull}
@@ -16,7 +16,7 @@ use Rattle.tm_app.specs.declared.play.Fault.TheVariants as fault
 use Rattle.tm_app.specs.Command.{Names, Command, Lint, Run, IsCommand, settings_named}
 use Rattle.tm_app.specs.Given.{rules_in, setting_in, grammar_files, AllGiven, IsSettingGiven, AreGiven, AreLoaded}
 use Rattle.tm_app.specs.Setup.{SetupData, Work, Linted, Played}
-use Rattle.tm_app.specs.Reading.{Part, the_settings, the_grammar, the_text, the_script, Refuses, text_form, script_form, IsReached, HasManyRules, IsLoaded, IsSetupLoaded, GivesSettings, GivesScript}
+use Rattle.tm_app.specs.Reading.{Part, the_settings, the_grammar, the_text, the_script, Refuses, text_form, script_form, IsReached, HasManyRules, IsLoaded, IsSetupLoaded, GivesScript}
 use Rattle.tm_app.specs.Outcome.{Outcome, WorkDone, WorkStops, IsDone}
 use Rattle.tm_app.specs.Complete.{IsGood, Completes}
 use Rattle.tm_app.proofs.Commands.{one-command}

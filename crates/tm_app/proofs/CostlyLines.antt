@@ -1,6 +1,6 @@
 -- What tells of a blocked line has its cause: a line that costs more than the budget.
-use Rattle.std.proofs.Common.{◌≡◌, ℕ, ◌<◌, ◌-◌, Bool, true, false, List, [], ◌∷◌, ◌++◌, length, Option, Some, None, refl, ap, sym, ◌∙◌, subst, inl, inr}
-use Rattle.std.specs.Prelude.{Contains, ◌||◌, is_some, slice_get}
+use Rattle.std.proofs.Common.{◌≡◌, ℕ, ◌<◌, ◌-◌, Bool, true, false, List, [], ◌∷◌, length, Option, Some, None, refl, ap, sym, ◌∙◌, subst, inl, inr}
+use Rattle.std.specs.Prelude.{◌||◌, is_some, slice_get}
 use Rattle.tm_defs.specs.declared.events.Step.{Step}
 use Rattle.tm_defs.specs.declared.events.Step.TheVariants as step
 use Rattle.tm_defs.specs.declared.events.Turn.{Turn}
@@ -11,7 +11,7 @@ use Rattle.tm_forms.specs.declared.script.ScriptStep.TheVariants.{Core, SettleQu
 use Rattle.tm_forms.specs.declared.script.Scripted.{Scripted}
 use Rattle.tm_machine.specs.declared.entries.Entry.{Entry}
 use Rattle.tm_machine.specs.Machine.{Rules, Machine, Answer, Edited, Lined, Forced, Steps, Turns, Forces, machine_of}
-use Rattle.tm_machine.specs.Reach.{Stand, stand_in, stands_of}
+use Rattle.tm_machine.specs.Reach.{stand_in, stands_of}
 use Rattle.tm_machine.specs.Scratch.{state_from_scratch}
 use Rattle.tm_machine.proofs.BlockedFronts.{front-costs, forces-blocked}
 use Rattle.tm_machine.proofs.ReachedTables.{front-start, stands-first}
@@ -21,7 +21,7 @@ use Rattle.tm_app.specs.Printed.{tells_from, tells_blocked, answer_text, quiet_t
 use Rattle.tm_app.specs.Stands.{Tells}
 use Rattle.tm_app.specs.Stops.{HasCostlyLine}
 use Rattle.tm_app.proofs.PlayRuns.{step-first}
-use Rattle.tm_app.proofs.Tells.{nothing-tells, both-tell, turn-tells, work-tells, blocked-tells, shown-tells, tells-as}
+use Rattle.tm_app.proofs.Tells.{nothing-tells, both-tell, turn-tells, work-tells, blocked-tells, shown-tells}
 
 module _ (r : Rules) where
   -- line i of the machine's text costs more than the budget

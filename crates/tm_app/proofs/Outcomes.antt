@@ -1,5 +1,5 @@
 -- How a run ends.
-use Rattle.std.proofs.Common.{◌≡◌, ℕ, List, [], ◌∷◌, zero, suc, Option, Some, None, Bool, true, false, sym, subst, inl, inr}
+use Rattle.std.proofs.Common.{◌≡◌, ℕ, List, [], zero, suc, Option, Some, None, Bool, true, false, sym, subst, inl, inr}
 use Rattle.std.proofs.lemmas.List.{append-nil}
 use Rattle.std.specs.Prelude.{slice_get}
 use Rattle.tm_app.specs.declared.play.Fault.TheVariants as fault
@@ -20,7 +20,7 @@ use Rattle.tm_app.specs.Reading.{IsSetupLoaded, GivesScript}
 use Rattle.tm_app.specs.Setup.{SetupData, Work, Linted, Played}
 use Rattle.tm_machine.specs.Machine.{machine_of}
 use Rattle.tm_machine.specs.Changes.{lines_of}
-use Rattle.tm_app.specs.Outcome.{Outcome, StopsLoad, StopsWork, SetupStops, WorkDone, WorkStops, IsDone, any_command, grammar_rules, IsBadPlace}
+use Rattle.tm_app.specs.Outcome.{Outcome, StopsLoad, SetupStops, WorkDone, WorkStops, IsDone, grammar_rules, IsBadPlace}
 use Rattle.tm_app.proofs.PlayRuns.{some-now, all-now}
 use Rattle.tm_app.proofs.ReadStops.{not-place}
 

@@ -7,10 +7,9 @@ use Rattle.tm_app.specs.declared.status.Status.TheVariants.{Ok, Usage, FileFault
 use Rattle.tm_app.specs.Told.{Told, where_told, what_of, HasGrown, HasAdded, IsFileStop, IsBuildStop}
 use Rattle.tm_forms.specs.declared.form.Refusal.{Refusal}
 use Rattle.tm_forms.specs.declared.form.Refusal.TheVariants as refusal
-use Rattle.tm_forms.specs.declared.script.Scripted.{Scripted}
 use Rattle.tm_forms.specs.Settings.{SettingsData}
 use Rattle.tm_app.specs.Command.{Names, Command, Lint, Run}
-use Rattle.tm_app.specs.Given.{IsGrammarReached, IsTooMany}
+use Rattle.tm_app.specs.Given.{IsGrammarReached}
 use Rattle.tm_app.specs.Reading.{Part, the_settings, the_grammar, the_text, the_script, Refuses, text_form, IsGrammarPart, IsReadStop, IsReached, HasManyRules, GivesSettings, HasSettings, IsLoadStop, IsScriptStop}
 
 pub not-many : (cause : Refusal) → TooManyRules ≡ what_of cause → ⊥

@@ -1,5 +1,5 @@
 -- What is searched while rules are open, with the patterns as they were read.
-use Rattle.std.specs.Prelude.{◌≡◌, ℕ, List, [], ◌∷◌, length, map, Bool, Option, Some, None, slice_get}
+use Rattle.std.specs.Prelude.{◌≡◌, ℕ, List, [], ◌∷◌, length, map, Bool, Option, Some, slice_get}
 use Rattle.tm_onig_class.specs.Tree.{Tree}
 use Rattle.tm_onig_scan.specs.Winner.{parsed_if}
 use Rattle.tm_onig_scan.specs.Rows.{AreCandidates}

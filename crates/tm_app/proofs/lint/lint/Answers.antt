@@ -1,4 +1,4 @@
-use Rattle.std.proofs.Common.{arith, ◌∙◌, ap, ◌++◌, drop, ◌+◌}
+use Rattle.std.proofs.Common.{arith, ap, ◌++◌, drop, ◌+◌}
 use Rattle.tm_outside.proofs.Taken.{takes-trans}
 use Rattle.tm_app.specs.Lint.{unread_texts, lint_from}
 use Rattle.tm_app.proofs.LintLines.{lint-parts, lint-next}

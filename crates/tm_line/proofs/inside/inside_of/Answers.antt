@@ -1,4 +1,4 @@
-use Rattle.std.proofs.Common.{◌≡◌, sym, subst, ◌∙◌}
+use Rattle.std.proofs.Common.{subst, ◌∙◌}
 use Rattle.tm_onig_scan.specs.Rows.{AreCandidates}
 use Rattle.tm_line.proofs.Insides.{inside-made}
 use Rattle.tm_line.proofs.inside.inside_of.Goals as goal

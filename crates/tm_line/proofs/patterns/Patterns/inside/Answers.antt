@@ -1,4 +1,4 @@
-use Rattle.std.proofs.Common.{◌≡◌, ◌<◌, length, arith}
+use Rattle.std.proofs.Common.{◌<◌, length, arith}
 use Rattle.std.proofs.lemmas.Bool.Decides.{nat_tests}
 use Rattle.tm_line.proofs.Insides.{inside-found, inside-none}
 use Rattle.tm_line.proofs.patterns.Patterns.inside.Goals as goal
