@@ -1,9 +1,8 @@
 -- No more groups stand around a token than tokens are behind it.
-use Rattle.std.proofs.Common.{◌≡◌, ℕ, zero, suc, ◌+◌, ◌-◌, ◌<◌, ◌≤◌, Bool, true, false, List, [], ◌∷◌, length, refl, ap, sym, ◌∙◌, arith, subst}
+use Rattle.std.proofs.Common.{◌≡◌, ℕ, zero, suc, ◌+◌, ◌<◌, ◌≤◌, Bool, true, false, List, [], ◌∷◌, length, ap, sym, arith, subst}
 use Rattle.tm_selector.specs.declared.tokens.Sign.TheVariants.{Left, Right, Minus, Open, Close, Bar, Comma}
 use Rattle.tm_selector.specs.declared.tokens.Token.{Token}
 use Rattle.tm_selector.specs.declared.tokens.Token.TheVariants.{Word, Mark}
-use Rattle.tm_selector.specs.declared.walk.Pending.{Pending}
 use Rattle.tm_selector.specs.declared.walk.Pending.TheVariants.{Known, Path}
 use Rattle.tm_selector.specs.declared.walk.Mode.{Mode}
 use Rattle.tm_selector.specs.declared.walk.Mode.TheVariants.{Live, Failed, Passed}

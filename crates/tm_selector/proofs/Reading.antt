@@ -1,17 +1,16 @@
 -- The walk over a selector's tokens knows what matches of what is read.
-use Rattle.std.proofs.Common.{◌≡◌, ℕ, zero, suc, ◌+◌, ◌-◌, Bool, true, false, not, ◌&&◌, ◌||◌, List, [], ◌∷◌, length, Option, Some, None, is_some, refl, ap, sym, ◌∙◌, arith, subst, add-one}
+use Rattle.std.proofs.Common.{◌≡◌, ℕ, zero, suc, ◌+◌, ◌-◌, Bool, true, false, not, ◌||◌, List, [], ◌∷◌, length, Option, is_some, refl, ap, sym, ◌∙◌, arith, subst, add-one}
 use Rattle.std.specs.Prelude.{option_and_then, ◌==◌}
 use Rattle.tm_selector.specs.declared.tokens.Sign.TheVariants.{Left, Right, Minus, Open, Close, Bar, Comma}
 use Rattle.tm_selector.specs.declared.tokens.Token.{Token}
 use Rattle.tm_selector.specs.declared.tokens.Token.TheVariants.{Word, Mark}
-use Rattle.tm_selector.specs.declared.walk.Side.{Side}
 use Rattle.tm_selector.specs.declared.walk.Pending.{Pending}
 use Rattle.tm_selector.specs.declared.walk.Pending.TheVariants.{Known, Path}
 use Rattle.tm_selector.specs.declared.walk.Mode.{Mode}
 use Rattle.tm_selector.specs.declared.walk.Mode.TheVariants.{Live, Failed, Passed}
 use Rattle.tm_selector.specs.declared.walk.Walk.{Walk}
 use Rattle.tm_selector.specs.Names.{path_place, place_above}
-use Rattle.tm_selector.specs.Selector.{Operand, path, turned, group, Operands, no_operands, operand, Choices, no_choices, choice, Level, fresh, Reading, Alternative, with_name, with_minus, all_of, with_group, with_choice, put_name, put_minus, put_close, opened, bar_inside, alternatives_by, alternatives, comma_inside, put, reading, alternatives_of, operand_matches, all_match, some_match, least_with, least_side}
+use Rattle.tm_selector.specs.Selector.{path, turned, group, Operands, no_operands, operand, Level, fresh, Reading, with_name, with_minus, all_of, with_group, with_choice, opened, bar_inside, alternatives_by, alternatives, comma_inside, put, reading, alternatives_of, operand_matches, all_match, some_match, least_with, least_side}
 use Rattle.tm_selector.specs.Walk.{pending_matches, named, turned_mode, into_group, closed_mode, opened_mode, next_choice, barred_mode, mode_matches, least_by, ended, barred, parted, walked_on, walked}
 use Rattle.tm_selector.proofs.Booleans.{or-false, or-true, and-true, and-false}
 

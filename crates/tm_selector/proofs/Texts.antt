@@ -1,5 +1,5 @@
 -- The tokens of a text, one token more.
-use Rattle.std.proofs.Common.{◌≡◌, ℕ, suc, ◌+◌, ◌-◌, ◌<◌, List, [], ◌∷◌, ◌++◌, drop, length, Option, Some, None, refl, ap, sym, ◌∙◌, arith, append_assoc}
+use Rattle.std.proofs.Common.{◌≡◌, ℕ, suc, ◌+◌, ◌-◌, ◌<◌, List, [], ◌∷◌, ◌++◌, drop, Option, Some, None, refl, ap, sym, ◌∙◌, arith, append_assoc}
 use Rattle.std.proofs.lemmas.List.{drop-drop}
 use Rattle.tm_selector.specs.declared.tokens.Token.{Token}
 use Rattle.tm_selector.specs.Tokens.{spaces, token_at, tokens_by, tokens_up_to}
@@ -28,6 +28,6 @@ one-token done all end counter at s w text t lt is some known =
     let n : end - counter ≡ suc (end - (counter + 1)) = omega arith in
     let front : drop (spaces (drop at text)) (drop at text) ≡ drop (at + s) text = ap (λ k. drop k (drop at text)) (sym is) ∙ drop-drop s at text in
     let more : tokens_up_to (end - counter) (drop at text) ≡ t ∷ tokens_up_to (end - (counter + 1)) (drop w (drop (at + s) text)) =
-        ap (λ k. tokens_up_to k (drop at text)) n ∙ by-token (end - (counter + 1)) (drop at text) (drop (at + s) text) (Some (t, w)) front some in
+    ap (λ k. tokens_up_to k (drop at text)) n ∙ by-token (end - (counter + 1)) (drop at text) (drop (at + s) text) (Some (t, w)) front some in
     let behind : drop w (drop (at + s) text) ≡ drop (at + s + w) text = drop-drop w (at + s) text in
     append_assoc done (t ∷ []) (tokens_up_to (end - (counter + 1)) (drop (at + s + w) text)) ∙ ap (λ x. done ++ t ∷ tokens_up_to (end - (counter + 1)) x) (sym behind) ∙ ap (λ ts. done ++ ts) (sym more) ∙ known

@@ -2,8 +2,7 @@
 --
 -- Its tokens are read from the last one to the first, so that a group is whole where it begins and a `-` stands before
 -- what it turns.
-use Rattle.std.specs.Prelude.{ℕ, ℤ, pos, negsuc, Bool, true, false, not, ◌&&◌, ◌||◌, List, [], ◌∷◌, Option, Some, None, option_map, if◌then◌else◌}
-use Rattle.tm_selector.specs.declared.tokens.Sign.{Sign}
+use Rattle.std.specs.Prelude.{ℕ, ℤ, pos, negsuc, Bool, true, false, not, ◌&&◌, ◌||◌, List, [], ◌∷◌, Option, Some, None, option_map}
 use Rattle.tm_selector.specs.declared.tokens.Sign.TheVariants.{Left, Right, Minus, Open, Close, Bar, Comma}
 use Rattle.tm_selector.specs.declared.tokens.Token.{Token}
 use Rattle.tm_selector.specs.declared.tokens.Token.TheVariants.{Word, Mark}

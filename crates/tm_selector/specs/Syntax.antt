@@ -1,7 +1,6 @@
 -- Which tokens of a text a selector keeps.
-use Rattle.std.specs.Prelude.{ℕ, zero, suc, ◌+◌, ◌-◌, ◌++◌, List, [], ◌∷◌, take, Bool, true, false, not, ◌&&◌, if◌then◌else◌, replicate, nat_eq}
-use Rattle.tm_selector.specs.declared.tokens.Sign.{Sign}
-use Rattle.tm_selector.specs.declared.tokens.Sign.TheVariants.{Left, Right, Minus, Open, Close, Bar, Comma}
+use Rattle.std.specs.Prelude.{ℕ, ◌+◌, ◌-◌, ◌++◌, List, [], ◌∷◌, take, Bool, true, false, not, ◌&&◌, if◌then◌else◌, replicate, nat_eq}
+use Rattle.tm_selector.specs.declared.tokens.Sign.TheVariants.{Left, Right, Open, Close, Bar, Comma}
 use Rattle.tm_selector.specs.declared.tokens.Token.{Token}
 use Rattle.tm_selector.specs.declared.tokens.Token.TheVariants.{Word, Mark}
 use Rattle.tm_selector.specs.declared.syntax.Behind.{Behind}

@@ -1,6 +1,5 @@
 -- The walk over a selector's tokens, from the last to the first: a mirror of the code, for its proof.
-use Rattle.std.specs.Prelude.{ℕ, zero, suc, ◌+◌, ◌-◌, ◌<◌, ⊤, Bool, true, false, not, List, [], ◌∷◌, length, Option, Some, None, is_some, option_and_then, nat_eq, if◌then◌else◌}
-use Rattle.tm_selector.specs.declared.tokens.Sign.{Sign}
+use Rattle.std.specs.Prelude.{ℕ, zero, suc, ◌+◌, ◌-◌, ◌<◌, ⊤, Bool, true, false, not, List, [], ◌∷◌, length, Option, None, is_some, option_and_then}
 use Rattle.tm_selector.specs.declared.tokens.Sign.TheVariants.{Left, Right, Minus, Open, Close, Bar, Comma}
 use Rattle.tm_selector.specs.declared.tokens.Token.{Token}
 use Rattle.tm_selector.specs.declared.tokens.Token.TheVariants.{Word, Mark}

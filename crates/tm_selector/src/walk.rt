@@ -74,7 +74,11 @@ fn named<S: Scopes>(scopes: &S, name: &Name, mode: Mode) -> Mode
     ensures { result ≡ named (S.names scopes.now) name.now mode }
 {
     match mode {
-        Mode::Live(Pending::Path(Some(place))) => Mode::Live(Pending::Path(place_above(scopes, name.as_slice(), place))),
+        Mode::Live(Pending::Path(Some(place))) => Mode::Live(Pending::Path(place_above(
+            scopes,
+            name.as_slice(),
+            place,
+        ))),
         Mode::Live(Pending::Known(true)) => {
             Mode::Live(Pending::Path(place_above(scopes, name.as_slice(), scopes.count())))
         }

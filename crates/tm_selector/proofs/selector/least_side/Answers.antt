@@ -1,4 +1,4 @@
-use Rattle.std.proofs.Common.{length, sym, ap, ◌∙◌, arith}
+use Rattle.std.proofs.Common.{ap, ◌∙◌}
 use Rattle.tm_selector.specs.Walk.{ended}
 use Rattle.tm_selector.proofs.Reading.{ended-is}
 use Rattle.tm_selector.proofs.selector.least_side.Goals as goal

@@ -7,7 +7,7 @@ use Rattle.tm_selector.proofs.tokens.tokens_of.Goals as goal
 pub returns-in-None : goal.returns-in-None
 returns-in-None c =
     no-token c.loop.tokens.items (tokens_of c.args.text.now) (length c.args.text.now) c.loop.counter c.loop.at c.spaces.result c.args.text.now c.loop-test.true
-        (c.spaces.ensures.is ∙ ap spaces c.tail.ensures) (sym (ap token_at c.tail-in-loop.ensures) ∙ sym c.in_ok-token.ensures.is ∙ c.in-None.is) c.loop.invariant.found
+    (c.spaces.ensures.is ∙ ap spaces c.tail.ensures) (sym (ap token_at c.tail-in-loop.ensures) ∙ sym c.in_ok-token.ensures.is ∙ c.in-None.is) c.loop.invariant.found
 
 pub loop-preserved : goal.loop-preserved
 loop-preserved c =
@@ -17,9 +17,9 @@ loop-preserved c =
     let blank : c.spaces.result ≤ length c.args.text.now - c.loop.at = omega (arith, c.spaces.ensures.within, ap length c.tail.ensures, length-drop c.loop.at c.args.text.now) in
     record {
       found =
-        ap (λ ts. ts ++ tokens_up_to (length c.args.text.now - (c.loop.counter + 1)) (drop (at + c.in-Some.width) c.args.text.now)) c.in_ok-push-in-Some.ensures.items
-        ∙ one-token c.loop.tokens.items (tokens_of c.args.text.now) (length c.args.text.now) c.loop.counter c.loop.at c.spaces.result c.in-Some.width c.args.text.now c.in-Some.token c.loop-test.true
-            (c.spaces.ensures.is ∙ ap spaces c.tail.ensures) (sym (ap token_at c.tail-in-loop.ensures) ∙ sym c.in_ok-token.ensures.is ∙ c.in-Some.is) c.loop.invariant.found;
+          ap (λ ts. ts ++ tokens_up_to (length c.args.text.now - (c.loop.counter + 1)) (drop (at + c.in-Some.width) c.args.text.now)) c.in_ok-push-in-Some.ensures.items
+          ∙ one-token c.loop.tokens.items (tokens_of c.args.text.now) (length c.args.text.now) c.loop.counter c.loop.at c.spaces.result c.in-Some.width c.args.text.now c.in-Some.token c.loop-test.true
+          (c.spaces.ensures.is ∙ ap spaces c.tail.ensures) (sym (ap token_at c.tail-in-loop.ensures) ∙ sym c.in_ok-token.ensures.is ∙ c.in-Some.is) c.loop.invariant.found;
       within = omega (arith, width, tail, blank, c.loop.invariant.within);
       end = refl;
     }

@@ -1,4 +1,4 @@
-use Rattle.std.proofs.Common.{arith, drop, length}
+use Rattle.std.proofs.Common.{arith, drop}
 use Rattle.std.proofs.lemmas.List.{length-drop}
 use Rattle.tm_selector.proofs.Depths.{depth-below, between-below}
 use Rattle.tm_selector.proofs.walk.walked.Goals as goal
