@@ -6,6 +6,7 @@
 
 mod selectors;
 mod texts;
+mod words;
 
 use anyhow::Result;
 use std::alloc::Global;
@@ -16,6 +17,8 @@ use tm_cases::{Case, CaseFault, one_line};
 fn answer_of(alloc: Global, case: &Case) -> Result<String, CaseFault> {
     match case.command() {
         "selector" => selectors::priorities(alloc, case),
+        "pack" => words::packed(alloc, case),
+        "unpack" => words::unpacked(alloc, case),
         _ => Err(CaseFault::NoCommand),
     }
 }
