@@ -1,0 +1,7 @@
+//! Themes.
+#![tactic(auto)]
+
+pub mod rules;
+mod strength;
+pub mod style;
+pub mod theme;
