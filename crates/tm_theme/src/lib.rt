@@ -1,6 +1,7 @@
 //! Themes.
 #![tactic(auto)]
 
+pub mod laws;
 pub mod rules;
 mod strength;
 pub mod style;

@@ -1,0 +1,7 @@
+//! Laws of the definitions. Each function does nothing but say one.
+ghost use Rattle.tm_theme.specs.Theme.{IsByLast};
+
+/// The parts of a path are those of the path above its last scope, with that scope.
+pub fn prove_parts_by_last_scope()
+    ensures { IsByLast }
+{}
