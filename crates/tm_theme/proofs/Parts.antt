@@ -1,14 +1,13 @@
 -- The parts of a path, by its last scope; and that they are small.
-use Rattle.std.proofs.Common.{◌≡◌, ℕ, ◌≤◌, Bool, true, false, List, [], ◌∷◌, ◌++◌, Option, Some, None, refl, ap, sym, subst, ◌∙◌, arith, append_assoc, if◌then◌else◌}
+use Rattle.std.proofs.Common.{◌≡◌, ℕ, ◌≤◌, Bool, true, false, List, [], ◌∷◌, ◌++◌, Option, Some, None, refl, ap, sym, subst, ◌∙◌, append_assoc, if◌then◌else◌}
 use Rattle.std.specs.Prelude.{unwrap_or, option_and_then}
 use Rattle.tm_theme.specs.declared.style.Look.{Look}
-use Rattle.tm_theme.specs.declared.style.Style.{Style}
 use Rattle.tm_theme.specs.declared.style.Attribute.{Attribute}
 use Rattle.tm_theme.specs.declared.style.Attribute.TheVariants.{Font, Foreground, Background}
 use Rattle.tm_theme.specs.declared.style.Alternative.{Alternative}
 use Rattle.tm_theme.specs.declared.theme.Parts.{Parts}
-use Rattle.tm_theme.specs.Style.{value_of, is_weaker, sets, stronger, strongest, setting, styled, IsSmall, IsAtMost, IsSmallStyle, AreSmall}
-use Rattle.tm_theme.specs.Theme.{ThemeRules, base_parts, pushed, parts_from, IsByLast}
+use Rattle.tm_theme.specs.Style.{value_of, is_weaker, sets, stronger, strongest, styled, IsSmall, IsAtMost, IsSmallStyle, AreSmall}
+use Rattle.tm_theme.specs.Theme.{base_parts, pushed, parts_from, IsByLast}
 
 last : (alternatives : List Alternative) (languages : List (List ℕ × ℕ)) (above path : List (List ℕ)) (scope : List ℕ) (parts : Parts) →
     parts_from alternatives languages above (path ++ scope ∷ []) parts ≡ pushed alternatives languages (above ++ path) scope (parts_from alternatives languages above path parts)

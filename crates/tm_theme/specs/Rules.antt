@@ -1,5 +1,5 @@
 -- The languages that scopes begin, and where brackets are matched.
-use Rattle.std.specs.Prelude.{ℕ, Bool, true, false, not, ◌&&◌, List, [], ◌∷◌, length, if◌then◌else◌, Option, Some, None, is_some, option_map, nat_lt}
+use Rattle.std.specs.Prelude.{ℕ, Bool, true, not, ◌&&◌, List, [], ◌∷◌, length, if◌then◌else◌, Option, Some, None, is_some, option_map, nat_lt}
 use Rattle.tm_selector.specs.Names.{covers}
 use Rattle.tm_selector.specs.Selector.{priority_of}
 use Rattle.tm_selector.specs.declared.tokens.Token.{Token}

@@ -1,5 +1,5 @@
 -- What the rules of a theme set, and which of them sets an attribute of a scope.
-use Rattle.std.specs.Prelude.{ℕ, ◌+◌, ◌<◌, ◌≤◌, ◌==◌, ◌&&◌, Bool, true, false, List, [], ◌∷◌, length, if◌then◌else◌, Option, Some, None, is_some, unwrap_or, option_and_then, nat_lt, ⊤}
+use Rattle.std.specs.Prelude.{ℕ, ◌+◌, ◌≤◌, ◌==◌, ◌&&◌, Bool, true, false, List, [], ◌∷◌, length, if◌then◌else◌, Option, Some, None, is_some, unwrap_or, option_and_then, nat_lt, ⊤}
 use Rattle.tm_selector.specs.Names.{covers, place_above}
 use Rattle.tm_theme.specs.declared.style.Look.{Look}
 use Rattle.tm_theme.specs.declared.style.Style.{Style}

@@ -121,9 +121,11 @@ pub fn styled<S: Scopes>(alternatives: &[Alternative], above: &S, scope: &Name, 
 {
     Look {
         font: setting(alternatives, Attribute::Font, above, scope).unwrap_or(look.font),
-        foreground: setting(alternatives, Attribute::Foreground, above, scope)
-            .unwrap_or(look.foreground),
-        background: setting(alternatives, Attribute::Background, above, scope)
-            .unwrap_or(look.background),
+        foreground: setting(alternatives, Attribute::Foreground, above, scope).unwrap_or(
+            look.foreground,
+        ),
+        background: setting(alternatives, Attribute::Background, above, scope).unwrap_or(
+            look.background,
+        ),
     }
 }

@@ -1,8 +1,8 @@
 //! Themes, and the metadata of scopes by them.
 ghost use Rattle.std.specs.Prelude.{◌≡◌, ◌≤◌, [], IfOk};
 ghost use Rattle.tm_meta.specs.Metadata.{type_bits};
-ghost use Rattle.tm_theme.specs.Style.{IsSmall};
-ghost use Rattle.tm_theme.specs.Theme.{plain_theme, base_parts, pushed, parts_from, metadata_by, word_of};
+ghost use Rattle.tm_theme.specs.Style.{IsSmall, AreSmall};
+ghost use Rattle.tm_theme.specs.Theme.{theme_rules, plain_theme, base_parts, pushed, parts_from, metadata_by, word_of};
 
 use crate::rules::{MetaRules, is_balanced, language_of};
 use crate::strength::styled;
@@ -139,6 +139,15 @@ impl Theme {
             },
             alternatives: Vec::new(alloc),
         })
+    }
+
+    /// The theme with this look of plain text and these alternatives of rules, in the order of its file.
+    pub fn new(base: Look, alternatives: Vec<Alternative>) -> Theme
+        requires base { IsSmall base }
+        requires alternatives { AreSmall alternatives.items }
+        ensures { result ≡ theme_rules base alternatives.items }
+    {
+        Theme { base, alternatives }
     }
 
     /// The parts of no scope.

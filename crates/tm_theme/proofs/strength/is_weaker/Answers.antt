@@ -6,5 +6,5 @@ use Rattle.tm_theme.proofs.strength.is_weaker.Goals.{then-loop-place-test+else-p
 pub returns : goal.returns
 returns c =
     weaker-end c.args.words.now c.args.others.now c.loop-place.place c.loop-place.invariant.within c.loop-place.invariant.within_others
-        (λ a b. elim c.loop-place-test.branch [ then-loop-place-test+else-place-others w ↦ omega arith | else-loop-place-test w ↦ omega arith ])
-        c.loop-place.invariant.same
+    (λ a b. elim c.loop-place-test.branch [ then-loop-place-test+else-place-others w ↦ omega arith | else-loop-place-test w ↦ omega arith ])
+    c.loop-place.invariant.same
