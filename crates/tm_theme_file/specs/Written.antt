@@ -31,7 +31,7 @@ stands_at word text place = not (not (place == 0) && not (is_space_at text (plac
 
 abbrev pub stands_before : List ℕ → List ℕ → ℕ → Bool
 stands_before word text zero = false
-stands_before word text (suc place) = stands_at word text place || stands_before word text place
+stands_before word text (suc place) = if stands_at word text place then true else stands_before word text place
 
 -- a word of the text is this one
 abbrev pub has_word : List ℕ → List ℕ → Bool

@@ -2,6 +2,8 @@
 #![tactic(auto)]
 
 pub mod fault;
+pub mod file;
+mod palette;
 mod paths;
 mod read;
 mod written;

@@ -1,0 +1,3 @@
+pub mod Places
+pub mod Small
+pub mod Utf8Values
