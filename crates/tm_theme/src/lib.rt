@@ -7,9 +7,16 @@
 //! ```
 #![tactic(auto)]
 
+pub mod fault;
+mod file;
 pub mod laws;
+mod palette;
+mod paths;
+mod read;
 pub mod rules;
 mod strength;
 pub mod style;
 pub mod theme;
 mod threads;
+mod written;
+mod wrong;

@@ -1,3 +1,0 @@
-pub mod Places
-pub mod Small
-pub mod Utf8Values
