@@ -44,8 +44,14 @@ fn told(alloc: Global, fault: &ThemeFault) -> Result<String, CaseFault> {
 fn languages_of(alloc: Global, value: &Value) -> Result<Vec<(Name, u8)>, CaseFault> {
     let mut languages = Vec::new(alloc);
     for pair in value.as_array().ok_or(CaseFault::NoField)? {
-        let name = pair.get(0).and_then(Value::as_str).ok_or(CaseFault::NoField)?;
-        let number = pair.get(1).and_then(Value::as_u64).ok_or(CaseFault::NoField)?;
+        let name = pair
+            .get(0)
+            .and_then(Value::as_str)
+            .ok_or(CaseFault::NoField)?;
+        let number = pair
+            .get(1)
+            .and_then(Value::as_u64)
+            .ok_or(CaseFault::NoField)?;
         let number = u8::try_from(number).map_err(|_| CaseFault::NoField)?;
         languages.push((name_of(alloc, name)?, number))?;
     }
@@ -84,7 +90,12 @@ fn words(
     Ok(answer)
 }
 
-fn answer(alloc: Global, case: &Case, rules: &MetaRules, first: usize) -> Result<String, CaseFault> {
+fn answer(
+    alloc: Global,
+    case: &Case,
+    rules: &MetaRules,
+    first: usize,
+) -> Result<String, CaseFault> {
     let file = file_of(alloc, case.text(0)?)?;
     match Theme::from_slice(alloc, file.as_bytes()) {
         Ok(theme) => words(alloc, case, &theme, rules, first),
@@ -139,7 +150,9 @@ fn many(alloc: Global, count: u64, key: &str) -> Result<String, CaseFault> {
             file.push(',')?;
         }
         let number = place % 0x100_0000 + 1;
-        file.push_str(format!(in alloc; "{{\"scope\":\"a\",\"settings\":{{\"{key}\":\"#{number:06x}\"}}}}")?.as_str())?;
+        file.push_str(format!(in alloc;
+            "{{\"scope\":\"a\",\"settings\":{{\"{key}\":\"#{number:06x}\"}}}}"
+        )?.as_str())?;
     }
     file.push_str("]}")?;
     Ok(file)

@@ -1,5 +1,5 @@
 -- Words at places, one place more.
-use Rattle.std.proofs.Common.{◌≡◌, ℕ, zero, suc, ◌-◌, ◌<◌, Bool, true, false, List, refl, ap, sym, ◌∙◌, arith, if◌then◌else◌}
+use Rattle.std.proofs.Common.{◌≡◌, ℕ, zero, suc, ◌-◌, ◌<◌, true, false, List, ap, sym, ◌∙◌, arith, if◌then◌else◌}
 use Rattle.tm_theme.specs.Written.{stands_at, stands_before}
 
 pub before-step : (word text : List ℕ) (place : ℕ) → 0 < place → stands_at word text (place - 1) ≡ false → stands_before word text (place - 1) ≡ stands_before word text place

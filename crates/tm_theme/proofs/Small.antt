@@ -1,5 +1,5 @@
 -- What a theme's file gives fits into the metadata word.
-use Rattle.std.proofs.Common.{◌≡◌, ℕ, ◌+◌, ◌≤◌, Bool, true, false, not, ◌&&◌, ◌||◌, List, [], ◌∷◌, ◌++◌, Option, Some, None, refl, ap, sym, ◌∙◌, subst, arith, if◌then◌else◌, nat_lt}
+use Rattle.std.proofs.Common.{◌≡◌, ℕ, ◌≤◌, Bool, true, false, not, ◌&&◌, ◌||◌, List, [], ◌∷◌, ◌++◌, Option, Some, None, refl, sym, subst, arith, if◌then◌else◌, nat_lt}
 use Rattle.std.specs.Prelude.{codes, option_map, unwrap_or}
 use Rattle.std.proofs.lemmas.Bool.Decides.{nat_tests}
 use Rattle.serde_json.specs.Data.{Data, null, boolean, number, string, array, object, Items, no_items, item}
@@ -12,7 +12,7 @@ use Rattle.tm_theme.specs.declared.palette.Defaults.{Defaults}
 use Rattle.tm_theme.specs.Written.{has_word, bit, font_of}
 use Rattle.tm_theme.specs.Wrong.{rules_key}
 use Rattle.tm_theme.specs.Read.{setting_text, rule_of, rules_of, rules_at, rules_in}
-use Rattle.tm_theme.specs.Palette.{with_default, defaults_from, number_of, is_over, rule_is_over, are_too_many, style_of, alternatives_with, rule_alternatives, all_alternatives}
+use Rattle.tm_theme.specs.Palette.{with_default, defaults_from, number_of, is_over, rule_is_over, are_too_many, style_of, alternatives_with, all_alternatives}
 use Rattle.tm_theme.specs.Fonts.{AreFonts}
 
 bit-le : (b : Bool) (v : ℕ) → bit b v ≤ v

@@ -1,5 +1,5 @@
 -- What is answered of a theme's file.
-use Rattle.std.specs.Prelude.{◌≡◌, ℕ, List, Bool, true, false, Option, Some, None, Result, Ok, Err, if◌then◌else◌, ⊤}
+use Rattle.std.specs.Prelude.{◌≡◌, ℕ, List, Option, Some, None, Result, Ok, Err, if◌then◌else◌, ⊤}
 use Rattle.serde_json.specs.Data.{Data}
 use Rattle.tm_grammar.specs.File.{value_in}
 use Rattle.tm_theme.specs.Theme.{ThemeRules}

@@ -1,5 +1,5 @@
 -- The defaults of a theme, the numbers of its colours, and what its rules are with these numbers.
-use Rattle.std.specs.Prelude.{ℕ, ◌+◌, ◌++◌, ◌&&◌, ◌||◌, Bool, true, false, not, List, [], ◌∷◌, map, codes, if◌then◌else◌, Option, Some, None, option_map, unwrap_or, nat_lt}
+use Rattle.std.specs.Prelude.{ℕ, ◌+◌, ◌++◌, ◌&&◌, ◌||◌, Bool, true, false, not, List, [], ◌∷◌, codes, if◌then◌else◌, Option, Some, None, option_map, unwrap_or, nat_lt}
 use Rattle.std.specs.Str.{bytes_eq}
 use Rattle.tm_theme.specs.declared.style.Style.{Style}
 use Rattle.tm_theme.specs.declared.style.Alternative.{Alternative}

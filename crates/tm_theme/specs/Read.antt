@@ -1,5 +1,5 @@
 -- The rules of a theme's file in which nothing is wrong.
-use Rattle.std.specs.Prelude.{ℕ, List, [], ◌∷◌, codes, Bool, true, false, ◌&&◌, Option, Some, None, option_map, option_and_then}
+use Rattle.std.specs.Prelude.{ℕ, List, [], ◌∷◌, codes, Bool, true, ◌&&◌, Option, Some, None, option_map, option_and_then}
 use Rattle.serde_json.specs.Data.{Data, string, array, Items, no_items, item}
 use Rattle.serde_json.specs.Find.{get, as_str}
 use Rattle.tm_theme.specs.declared.read.WrittenRule.{WrittenRule}

@@ -1,7 +1,6 @@
 -- Colours, fonts and scopes as a theme's file writes them, in the bytes of UTF-8: all characters that count are ASCII.
 use Rattle.std.specs.Prelude.{ℕ, zero, suc, ◌-◌, drop, slice_get, Option, Some, None, ◌+◌, ◌++◌, ◌==◌, ◌&&◌, ◌||◌, Bool, true, false, not, List, [], ◌∷◌, length, map, codes, if◌then◌else◌, nat_eq}
 use Rattle.std.specs.List.{list_all, starts_with}
-use Rattle.std.specs.Str.{bytes_eq}
 use Rattle.std.specs.Char.{is_ascii_alphanumeric, is_ascii_hexdigit, to_ascii_uppercase}
 
 -- 3, 4, 6 or 8

@@ -1,8 +1,8 @@
 -- The first value of a theme's file that is wrong: a value stands before its parts, items stand in their order, and members
 -- in the order of their keys' bytes. Only the keys named here are looked at.
-use Rattle.std.specs.Prelude.{ℕ, ◌+◌, ◌++◌, List, [], ◌∷◌, codes, Bool, true, false, if◌then◌else◌, Option, Some, None, option_map, is_some}
+use Rattle.std.specs.Prelude.{ℕ, ◌+◌, ◌++◌, List, [], ◌∷◌, codes, Bool, true, false, if◌then◌else◌, Option, Some, None, is_some}
 use Rattle.std.specs.Option.{option_or}
-use Rattle.serde_json.specs.Data.{Data, null, boolean, number, string, array, object, Items, no_items, item}
+use Rattle.serde_json.specs.Data.{Data, string, array, object, Items, no_items, item}
 use Rattle.serde_json.specs.Find.{get}
 use Rattle.tm_grammar.specs.Paths.{key_step, place_step}
 use Rattle.tm_theme.specs.declared.fault.Wrong.{Wrong}

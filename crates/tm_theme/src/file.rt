@@ -10,12 +10,12 @@ ghost use Rattle.tm_theme.specs.declared.fault.ThemeFault.TheVariants as fault;
 use crate::fault::{ThemeFault, Wrong};
 use crate::palette::{all_alternatives, are_too_many, background_number, defaults_of, palette_of};
 use crate::read::{WrittenRule, rules_in};
+use crate::style::Look;
+use crate::theme::Theme;
 use crate::wrong::wrong_in;
 use serde_json::Value;
 use std::alloc::Global;
 use tm_defs::memory::OutOfMemory;
-use crate::style::Look;
-use crate::theme::Theme;
 
 /// The value of a file.
 fn value_of(alloc: Global, bytes: &[u8]) -> Result<Option<Value>, OutOfMemory>

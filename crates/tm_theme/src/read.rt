@@ -5,8 +5,8 @@ ghost use Rattle.serde_json.specs.View.{view, items_view};
 ghost use Rattle.tm_theme.specs.Written.{font_of};
 ghost use Rattle.tm_theme.specs.Read.{text_is_blank, items_are_blank, sets_defaults, text_alternatives, items_alternatives, scope_alternatives, setting_text, colour_in, rule_of, rules_of, rules_at, rules_in};
 
-use crate::wrong::rules_key;
 use crate::written::{add_alternatives, font_of, is_blank, upper};
+use crate::wrong::rules_key;
 use serde_json::Value;
 use std::alloc::Global;
 use std::marker::Model;

@@ -4,7 +4,6 @@ ghost use Rattle.std.specs.List.{list_all};
 ghost use Rattle.std.specs.Char.{is_ascii_hexdigit};
 ghost use Rattle.tm_theme.specs.Written.{is_digit_count, is_colour, upper, is_blank, is_space_at, stands_at, has_word, bit, font_of, is_name_character, with_word, alternative, alternatives_from};
 
-
 use std::alloc::Global;
 use tm_defs::memory::OutOfMemory;
 use tm_defs::texts::{Name, ScopePath};
@@ -26,9 +25,7 @@ pub fn is_colour(text: &[u8]) -> bool
     ensures { result ≡ is_colour text.now }
 {
     match text {
-        [b'#', digits @ ..] => {
-            is_digit_count(digits.len()) && are_digits(digits)
-        }
+        [b'#', digits @ ..] => { is_digit_count(digits.len()) && are_digits(digits) }
         _ => false,
     }
 }

@@ -49,7 +49,11 @@ fn below_key(alloc: Global, key: &str, wrong: Option<Wrong>) -> Result<Option<Wr
     below(paths::with_key(alloc, &[], key)?, wrong)
 }
 
-fn below_place(alloc: Global, place: usize, wrong: Option<Wrong>) -> Result<Option<Wrong>, OutOfMemory>
+fn below_place(
+    alloc: Global,
+    place: usize,
+    wrong: Option<Wrong>,
+) -> Result<Option<Wrong>, OutOfMemory>
     ensures { IfOk result (λ found. found ≡ below (place_step place) wrong) }
 {
     below(paths::with_place(alloc, &[], place)?, wrong)
@@ -59,7 +63,11 @@ fn below_place(alloc: Global, place: usize, wrong: Option<Wrong>) -> Result<Opti
 fn wrong_text(alloc: Global, value: &Value) -> Option<Wrong>
     ensures { result ≡ wrong_text (view value.now) }
 {
-    if value.is_string() { None } else { misfit(alloc) }
+    if value.is_string() {
+        None
+    } else {
+        misfit(alloc)
+    }
 }
 
 /// A text that is a colour, or empty.

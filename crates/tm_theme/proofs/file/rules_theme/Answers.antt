@@ -1,4 +1,4 @@
-use Rattle.std.proofs.Common.{◌≡◌, ◌≤◌, [], sym, ap, subst, ◌∙◌, arith}
+use Rattle.std.proofs.Common.{◌≤◌, sym, ap, subst, ◌∙◌, arith}
 use Rattle.std.specs.Prelude.{codes}
 use Rattle.tm_theme.specs.Style.{AreSmall}
 use Rattle.tm_theme.specs.Palette.{defaults_from}
@@ -17,4 +17,4 @@ new-requires-clause-base c =
 pub new-requires-clause-alternatives : goal.new-requires-clause-alternatives
 new-requires-clause-alternatives c =
     subst AreSmall (sym c.in_ok-alternatives.ensures)
-        (alternatives-small _ c.args.rules.now c.requires (sym c.are_too_many.ensures ∙ c.if-are_too_many.false))
+    (alternatives-small _ c.args.rules.now c.requires (sym c.are_too_many.ensures ∙ c.if-are_too_many.false))

@@ -1,4 +1,4 @@
-use Rattle.std.proofs.Common.{◌≡◌, ◌++◌, drop, map}
+use Rattle.std.proofs.Common.{◌≡◌, ◌++◌, drop}
 use Rattle.tm_theme.specs.Written.{upper}
 use Rattle.tm_theme.proofs.written.upper.Given as goal
 
