@@ -7,11 +7,11 @@ use Rattle.serde_json.specs.Find.{get}
 use Rattle.tm_theme.specs.declared.style.Style.{Style}
 use Rattle.tm_theme.specs.declared.style.Alternative.{Alternative}
 use Rattle.tm_theme.specs.Style.{IsAtMost, IsSmallStyle, AreSmall}
-use Rattle.tm_theme.specs.declared.read.WrittenRule.{WrittenRule}
+use Rattle.tm_theme_file.specs.declared.read.WrittenRule.{WrittenRule}
 use Rattle.tm_theme.specs.declared.palette.Defaults.{Defaults}
-use Rattle.tm_theme.specs.Written.{has_word, bit, font_of}
-use Rattle.tm_theme.specs.Wrong.{rules_key}
-use Rattle.tm_theme.specs.Read.{setting_text, rule_of, rules_of, rules_at, rules_in}
+use Rattle.tm_theme_file.specs.Written.{has_word, bit, font_of}
+use Rattle.tm_theme_file.specs.Wrong.{rules_key}
+use Rattle.tm_theme_file.specs.Read.{setting_text, rule_of, rules_of, rules_at, rules_in}
 use Rattle.tm_theme.specs.Palette.{with_default, defaults_from, number_of, is_over, rule_is_over, are_too_many, style_of, alternatives_with, all_alternatives}
 use Rattle.tm_theme.specs.Fonts.{AreFonts}
 

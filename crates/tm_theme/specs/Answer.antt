@@ -5,12 +5,12 @@ use Rattle.tm_grammar.specs.File.{value_in}
 use Rattle.tm_theme.specs.Theme.{ThemeRules}
 use Rattle.tm_theme.specs.declared.fault.ThemeFault.{ThemeFault}
 use Rattle.tm_theme.specs.declared.fault.ThemeFault.TheVariants.{NotJson, BadShape, BadColour, TooManyColours, OutOfMemory}
-use Rattle.tm_theme.specs.declared.fault.Wrong.{Wrong}
-use Rattle.tm_theme.specs.declared.fault.Wrong.TheVariants.{Shape, Colour}
+use Rattle.tm_theme_file.specs.declared.fault.Wrong.{Wrong}
+use Rattle.tm_theme_file.specs.declared.fault.Wrong.TheVariants.{Shape, Colour}
 use Rattle.tm_theme.specs.declared.palette.Defaults.{Defaults}
-use Rattle.tm_theme.specs.declared.read.WrittenRule.{WrittenRule}
-use Rattle.tm_theme.specs.Wrong.{wrong_in}
-use Rattle.tm_theme.specs.Read.{rules_in}
+use Rattle.tm_theme_file.specs.declared.read.WrittenRule.{WrittenRule}
+use Rattle.tm_theme_file.specs.Wrong.{wrong_in}
+use Rattle.tm_theme_file.specs.Read.{rules_in}
 use Rattle.tm_theme.specs.Palette.{defaults_of, palette_of, are_too_many, theme_by}
 
 abbrev pub within : Defaults → List (List ℕ) → List WrittenRule → Option ThemeRules

@@ -1,9 +1,6 @@
 pub mod Style
 pub mod Rules
 pub mod Theme
-pub mod Written
-pub mod Wrong
-pub mod Read
 pub mod Palette
 pub mod Fonts
 pub mod Answer

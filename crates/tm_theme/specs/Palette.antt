@@ -4,7 +4,7 @@ use Rattle.std.specs.Str.{bytes_eq}
 use Rattle.tm_theme.specs.declared.style.Style.{Style}
 use Rattle.tm_theme.specs.declared.style.Alternative.{Alternative}
 use Rattle.tm_theme.specs.Theme.{ThemeRules, theme_rules}
-use Rattle.tm_theme.specs.declared.read.WrittenRule.{WrittenRule}
+use Rattle.tm_theme_file.specs.declared.read.WrittenRule.{WrittenRule}
 use Rattle.tm_theme.specs.declared.palette.Defaults.{Defaults}
 
 -- the defaults with what a rule without scope sets

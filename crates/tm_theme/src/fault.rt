@@ -18,12 +18,3 @@ pub enum ThemeFault {
     TooManyColours,
     OutOfMemory,
 }
-
-/// The first value of a theme that is wrong, by its path.
-#[derive(Drop)]
-pub enum Wrong {
-    /// It is not what it ought to be.
-    Shape(Name),
-    /// It is a text, but no colour.
-    Colour(Name),
-}

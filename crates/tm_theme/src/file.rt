@@ -3,16 +3,17 @@ ghost use Rattle.std.specs.Prelude.{◌≡◌, ◌≢◌, IfOk, IfErr, Err, opti
 ghost use Rattle.serde_json.specs.View.{view};
 ghost use Rattle.tm_grammar.specs.File.{value_in};
 ghost use Rattle.tm_theme.specs.Fonts.{AreFonts};
-ghost use Rattle.tm_theme.specs.Read.{rules_in};
+ghost use Rattle.tm_theme_file.specs.Read.{rules_in};
 ghost use Rattle.tm_theme.specs.Answer.{theme_from, IsRight, IsCauseIn, answer_from, answer_of};
 ghost use Rattle.tm_theme.specs.declared.fault.ThemeFault.TheVariants as fault;
 
-use crate::fault::{ThemeFault, Wrong};
+use crate::fault::ThemeFault;
 use crate::palette::{all_alternatives, are_too_many, background_number, defaults_of, palette_of};
-use crate::read::{WrittenRule, rules_in};
+use tm_theme_file::fault::Wrong;
+use tm_theme_file::read::{WrittenRule, rules_in};
 use crate::style::Look;
 use crate::theme::Theme;
-use crate::wrong::wrong_in;
+use tm_theme_file::wrong::wrong_in;
 use serde_json::Value;
 use std::alloc::Global;
 use tm_defs::memory::OutOfMemory;

@@ -1,7 +1,0 @@
-use Rattle.std.proofs.Common.{◌≡◌, [], drop}
-use Rattle.serde_json.specs.View.{items_view}
-use Rattle.tm_theme.specs.Read.{items_alternatives}
-use Rattle.tm_theme.proofs.read.items_alternatives.Given as goal
-
-abbrev pub invariant-loop-item : goal.invariant-loop-item
-invariant-loop-item l = items_alternatives l.done.items (items_view (drop l.item-index l.items)) ≡ items_alternatives [] (items_view l.items)
