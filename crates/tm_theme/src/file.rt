@@ -9,14 +9,14 @@ ghost use Rattle.tm_theme.specs.declared.fault.ThemeFault.TheVariants as fault;
 
 use crate::fault::ThemeFault;
 use crate::palette::{all_alternatives, are_too_many, background_number, defaults_of, palette_of};
-use tm_theme_file::fault::Wrong;
-use tm_theme_file::read::{WrittenRule, rules_in};
 use crate::style::Look;
 use crate::theme::Theme;
-use tm_theme_file::wrong::wrong_in;
 use serde_json::Value;
 use std::alloc::Global;
 use tm_defs::memory::OutOfMemory;
+use tm_theme_file::fault::Wrong;
+use tm_theme_file::read::{WrittenRule, rules_in};
+use tm_theme_file::wrong::wrong_in;
 
 /// The value of a file.
 fn value_of(alloc: Global, bytes: &[u8]) -> Result<Option<Value>, OutOfMemory>

@@ -3,11 +3,11 @@ ghost use Rattle.std.specs.Prelude.{◌≡◌, ◌++◌, ℕ, List, [], ◌∷�
 ghost use Rattle.std.specs.Str.{bytes_eq};
 ghost use Rattle.tm_theme.specs.Palette.{background_number, with_default, defaults_from, defaults_of, number_of, has_colour, with_colour, with_some, with_rule, palette_from, palette_of, is_over, rule_is_over, are_too_many, style_of, alternatives_with, rule_alternatives, all_alternatives};
 
-use tm_theme_file::read::WrittenRule;
 use crate::style::{Alternative, Style};
 use std::alloc::Global;
 use tm_defs::memory::OutOfMemory;
 use tm_defs::texts::{Name, ScopePath};
+use tm_theme_file::read::WrittenRule;
 
 /// What plain text looks like.
 #[derive(Drop)]
