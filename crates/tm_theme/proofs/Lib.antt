@@ -2,3 +2,4 @@ pub mod Orders
 pub mod Parts
 pub mod Small
 pub mod Utf8Values
+pub mod Strongest

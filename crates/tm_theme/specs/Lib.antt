@@ -4,3 +4,4 @@ pub mod Theme
 pub mod Palette
 pub mod Fonts
 pub mod Answer
+pub mod Strongest
