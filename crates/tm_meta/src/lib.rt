@@ -15,6 +15,7 @@ ghost use Rattle.std.specs.Prelude.{◌≡◌, ◌∷◌, [], ℕ, List, codes};
 ghost use Rattle.tm_meta.specs.Leftmost.{IsLeftmost};
 ghost use Rattle.tm_meta.specs.Metadata.{metadata_of};
 
+pub mod fields;
 pub mod metadata;
 mod threads;
 

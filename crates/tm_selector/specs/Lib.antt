@@ -1,0 +1,5 @@
+pub mod Names
+pub mod Tokens
+pub mod Syntax
+pub mod Selector
+pub mod Walk

@@ -1,0 +1,5 @@
+pub mod Orders
+pub mod Parts
+pub mod Small
+pub mod Utf8Values
+pub mod Strongest

@@ -1,0 +1,5 @@
+use Rattle.tm_theme.proofs.Parts.{pushed-small}
+use Rattle.tm_theme.proofs.theme.Theme.pushed.Goals as goal
+
+pub returns-clause-small : goal.returns-clause-small
+returns-clause-small g c = pushed-small c.pushed.result c.args.parts c.self.inside.alternatives.items _ _ _ _ c.pushed.ensures c.as_slice.ensures.value c.self.invariant.1

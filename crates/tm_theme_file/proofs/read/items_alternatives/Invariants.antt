@@ -1,0 +1,7 @@
+use Rattle.std.proofs.Common.{◌≡◌, [], drop}
+use Rattle.serde_json.specs.View.{items_view}
+use Rattle.tm_theme_file.specs.Read.{items_alternatives}
+use Rattle.tm_theme_file.proofs.read.items_alternatives.Given as goal
+
+abbrev pub invariant-loop-item : goal.invariant-loop-item
+invariant-loop-item l = items_alternatives l.done.items (items_view (drop l.item-index l.items)) ≡ items_alternatives [] (items_view l.items)
