@@ -248,7 +248,11 @@ pub fn fill(alloc: Global, table: &mut StateTable, case: &Case) -> Result<String
             return unknown(alloc);
         }
         let limit = table.limit();
-        if let Err(DeltaFault::TableFull(limit)) = table.apply(StateId(parent), &counted(alloc, i)?, limit) {
+        if let Err(DeltaFault::TableFull(limit)) = table.apply(
+            StateId(parent),
+            &counted(alloc, i)?,
+            limit,
+        ) {
             return numbered(alloc, Err(TableFault::TableFull(limit)));
         }
     }

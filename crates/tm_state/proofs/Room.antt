@@ -70,9 +70,11 @@ module _ {X : Type 0} where
       among y h =
           let P : List X → Type 0 = λ l. Contains l y in
           elim (contains-split old grew.added y (subst P grew.is h)) [ inl k ↦ contains-grown made old all y whole k | inr k ↦ all-in (Contains all) made y has (all-in (Contains made) grew.added y grew.within k) ]
+
       rest : (l : List X) (y : X) → Contains new y → (y ≡ lacks.1.0) ⊎ Contains l y → Contains l y
       rest l y h (inl same) = absurd (lacks.1.2 (subst (Contains new) same h))
       rest l y h (inr k) = k
+
       by : KeepsLimit limit (length old) (length all) → length new < length all → length old ≤ length new → ⊥
       by (inl same) more longer = omega arith
       by (inr low) more longer = omega (arith, lacks.0)
