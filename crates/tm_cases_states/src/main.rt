@@ -42,6 +42,8 @@ fn answer(alloc: Global, tables: &mut Tables, line: &str) -> Result<String, Case
         "again" => states::again(alloc, &mut tables.states, &case)?,
         "top" => states::top(alloc, &tables.states, &case)?,
         "reintern" => states::reintern(alloc, &mut tables.states, &case)?,
+        "fill" => states::fill(alloc, &mut tables.states, &case)?,
+        "times" => states::times(alloc, &mut tables.states, &case)?,
         "sizes" => states::sizes(alloc, &tables.states)?,
         _ => return Err(CaseFault::NoCommand),
     };

@@ -5,7 +5,7 @@
 use crate::values::{name_of, number, numbered, path_of, refused, unknown, write_name, write_path};
 use std::alloc::Global;
 use tm_cases::{Case, CaseFault};
-use tm_defs::frames::{Delta, FrameData, StateData, StateId};
+use tm_defs::frames::{Delta, FrameData, ScopeList, StateData, StateId, TextId};
 use tm_defs::tables::{States, TableFault};
 use tm_defs::texts::ScopePath;
 use tm_state::deltas::DeltaFault;
@@ -219,4 +219,138 @@ pub fn sizes(alloc: Global, table: &StateTable) -> Result<String, CaseFault> {
         "{texts} texts, {lists} lists, {} states",
         table.state_count()
     )?)
+}
+
+/// The state that `fill` adds as number `i`: a frame of rule `i`, whose end and names are the digits of `i`.
+fn counted(alloc: Global, i: u32) -> Result<Delta, CaseFault> {
+    let digits = format!(in alloc; "{i}")?;
+    let frame = FrameData {
+        rule: i,
+        end: Some(name_of(alloc, digits.as_str())?),
+        names: path_of(alloc, digits.as_str(), ' ')?,
+        contents: path_of(alloc, digits.as_str(), ' ')?,
+        at_eol: false,
+    };
+    let mut frames = Vec::new(alloc);
+    frames.push(frame)?;
+    Ok(Delta {
+        pops: 0,
+        pushed: StateData::new(frames),
+    })
+}
+
+/// `fill COUNT`: states by number until there are so many, in stacks of depth 20 whose least stands on the
+/// opening state.
+pub fn fill(alloc: Global, table: &mut StateTable, case: &Case) -> Result<String, CaseFault> {
+    for i in table.state_count()..number(case, 0)? {
+        let parent = if i % 20 == 1 { 0 } else { i.saturating_sub(1) };
+        if parent >= table.state_count() {
+            return unknown(alloc);
+        }
+        let limit = table.limit();
+        if let Err(DeltaFault::TableFull(limit)) = table.apply(
+            StateId(parent),
+            &counted(alloc, i)?,
+            limit,
+        ) {
+            return numbered(alloc, Err(TableFault::TableFull(limit)));
+        }
+    }
+    sizes(alloc, table)
+}
+
+/// `times "text", COUNT, TEXT`, `times "push", COUNT, LIST, TEXT`, `times "intern", COUNT, STATE` or
+/// `times "diff", COUNT, STATE, STATE`: a call so many times, of what is known; the answer of the last.
+pub fn times(alloc: Global, table: &mut StateTable, case: &Case) -> Result<String, CaseFault> {
+    let call = case.text(0)?;
+    let count = number(case, 1)?;
+    let a = number(case, 2)?;
+    match call {
+        "text" => texts(alloc, table, count, a),
+        "push" => pushes(alloc, table, count, a, number(case, 3)?),
+        "intern" => interns(alloc, table, count, a),
+        "diff" => diffs(alloc, table, count, a, number(case, 3)?),
+        _ => Err(CaseFault::NoField),
+    }
+}
+
+fn texts(
+    alloc: Global,
+    table: &mut StateTable,
+    count: u32,
+    text: u32,
+) -> Result<String, CaseFault> {
+    if text >= table.text_count() {
+        return unknown(alloc);
+    }
+    let name = table.text_of(TextId(text)).copy().map_err(refused)?;
+    let mut last = 0;
+    for _call in 0..count {
+        match table.text(&name) {
+            Ok(id) => last = id.0,
+            Err(fault) => return numbered(alloc, Err(fault)),
+        }
+    }
+    numbered(alloc, Ok(last))
+}
+
+fn pushes(
+    alloc: Global,
+    table: &mut StateTable,
+    count: u32,
+    list: u32,
+    text: u32,
+) -> Result<String, CaseFault> {
+    let mut last = 0;
+    for _call in 0..count {
+        if list >= table.list_count() || text >= table.text_count() {
+            return unknown(alloc);
+        }
+        match table.push(ScopeList(list), TextId(text)) {
+            Ok(id) => last = id.0,
+            Err(fault) => return numbered(alloc, Err(fault)),
+        }
+    }
+    numbered(alloc, Ok(last))
+}
+
+fn interns(
+    alloc: Global,
+    table: &mut StateTable,
+    count: u32,
+    state: u32,
+) -> Result<String, CaseFault> {
+    let mut last = 0;
+    for _call in 0..count {
+        if state == 0 || state >= table.state_count() {
+            return unknown(alloc);
+        }
+        let (frame, rest) = table.innermost(StateId(state));
+        match table.intern(frame, rest) {
+            Ok(id) => last = id.0,
+            Err(fault) => return numbered(alloc, Err(fault)),
+        }
+    }
+    numbered(alloc, Ok(last))
+}
+
+fn diffs(
+    alloc: Global,
+    table: &StateTable,
+    count: u32,
+    a: u32,
+    b: u32,
+) -> Result<String, CaseFault> {
+    let states = table.state_count();
+    if a >= states || b >= states {
+        return unknown(alloc);
+    }
+    let mut pops = 0;
+    let mut pushed = 0;
+    for _call in 0..count {
+        let delta = table.diff(StateId(a), StateId(b)).map_err(refused)?;
+        pops = delta.pops;
+        pushed = delta.pushed.as_slice().len();
+    }
+    Ok(format!(in alloc; "{pops} away, {pushed} more")?)
 }

@@ -8,3 +8,5 @@ pub mod WithFrame
 pub mod Whole
 pub mod Difference
 pub mod Led
+pub mod Known
+pub mod Room

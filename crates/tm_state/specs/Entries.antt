@@ -3,8 +3,8 @@ use Rattle.std.specs.Prelude.{◌≡◌, ℕ, ◌++◌, ◌<◌, ◌≤◌, List
 use Rattle.std.specs.Option.{option_to_list}
 use Rattle.std.specs.List.{flat_map}
 use Rattle.tm_defs.specs.declared.frames.FrameData.{FrameData}
-use Rattle.tm_defs.specs.Tables.{Tables, TableEntries}
-use Rattle.tm_scope.specs.Entries.{fronts, HasEntries, HasPathEntries}
+use Rattle.tm_defs.specs.Tables.{Tables, TableEntries, GrowsWithin}
+use Rattle.tm_scope.specs.Entries.{fronts, HasEntries, HasPathEntries, KeepsLimits}
 
 -- the texts of a frame: that of its end, and its names
 abbrev pub frame_texts : FrameData → List (List ℕ)
@@ -40,3 +40,10 @@ BeginsWith {X} whole front = (rest : List X) × (whole ≡ front ++ rest)
 abbrev pub FrontsComeFirst : Tables → Type 0
 FrontsComeFirst t = (front whole : ℕ) → front < length t.states → whole < length t.states →
     BeginsWith (slice_index_or t.states whole []) (slice_index_or t.states front []) → front ≤ whole
+
+-- the table may grow by these alone until it has them all, and keep the limit
+pub record HasRoomFor (limit : ℕ) (made : TableEntries) (t : Tables) : Type 0 where
+  pub grown : Tables
+  pub grows : GrowsWithin made t grown
+  pub entries : HasEntries made grown
+  pub kept : KeepsLimits limit t grown

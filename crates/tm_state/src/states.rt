@@ -3,10 +3,11 @@
 //! A state is numbered by its innermost frame and the number of the state without it, so a state of any
 //! depth takes one link, and two states are compared by their numbers alone. A link leads to a lower
 //! number, so of two states the one with the higher number is never a front of the other.
-ghost use Rattle.std.specs.Prelude.{◌≡◌, ◌↔◌, ◌<◌, ◌≤◌, [], ◌∷◌, ◌++◌, length, min, Some, slice_get, IfOk, OnErr, IfErr, IsTrue, MatchOption, Contains};
+ghost use Rattle.std.specs.Prelude.{◌≡◌, ◌↔◌, ◌<◌, ◌≤◌, [], ◌∷◌, ◌++◌, length, min, Some, Err, slice_get, IfOk, OnOk, OnErr, IfErr, IsTrue, MatchOption, Contains};
 ghost use Rattle.tm_defs.specs.Tables.{GrowsWithin, only_text, only_path, only_state, longer_path, deeper_state, IsFrameOf, text_at, path_at, state_at, frame_at};
+ghost use Rattle.tm_defs.specs.declared.tables.TableFault.TheVariants.{TableFull};
 ghost use Rattle.tm_scope.specs.Entries.{HasEntries, KeepsLimits, IsFullFor};
-ghost use Rattle.tm_state.specs.Entries.{frame_entries, frame_and_state, state_entries, IsClosed, FrontsComeFirst};
+ghost use Rattle.tm_state.specs.Entries.{frame_entries, frame_and_state, state_entries, IsClosed, FrontsComeFirst, HasRoomFor};
 
 use crate::frames::frame_within;
 use std::alloc::Global;
@@ -287,16 +288,24 @@ impl StateTable {
 
     /// The number of a plain state, with the numbers of all that it needs. Each is kept where it is new and
     /// fewer of its kind are there than the lesser of `limit` and the table's own, which `TableFull` names.
-    /// A state that has a number is never refused. After a refusal the table may have grown.
+    /// A state that has a number is never refused, and changes nothing. After a refusal the table may have
+    /// grown.
     pub fn put(&mut self, state: &StateData, limit: u32) -> Result<StateId, TableFault>
         ensures ok { IfOk result (λ id. slice_get self.new.states id.0 ≡ Some state.now) }
         ensures grows { GrowsWithin (state_entries state.now) self.old self.new }
         ensures limit { KeepsLimits (min limit self.old.limit) self.old self.new }
         ensures absent { OnErr result (¬ Contains self.old.states state.now) }
         ensures full { IfErr result (IsFullFor (min limit self.old.limit) (state_entries state.now) self.new) }
+        ensures room { OnOk result (HasRoomFor (min limit self.old.limit) (state_entries state.now) self.old) }
+        ensures no_room { result ≡ Err (TableFull (min limit self.old.limit)) → ¬ HasRoomFor (min limit self.old.limit) (state_entries state.now) self.old }
+        ensures known { Contains self.old.states state.now → self.new ≡ self.old }
     {
+        self.closed();
         self.known();
         let limit = limit.min(self.limit());
-        self.with_frames(StateId(0), state.as_slice(), limit)
+        let result = self.with_frames(StateId(0), state.as_slice(), limit);
+        self.closed();
+        self.known();
+        result
     }
 }
