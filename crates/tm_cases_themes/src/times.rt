@@ -80,8 +80,7 @@ fn printed(alloc: Global, parts: Parts) -> Result<String, CaseFault> {
     answer.push_str(format!(in alloc;
         " {} {} {}",
         look.font, look.foreground, look.background
-    )?
-    .as_str())?;
+    )?.as_str())?;
     Ok(answer)
 }
 
