@@ -3,7 +3,7 @@
 
 Wants valgrind, and the program built: `rt run` in crates/tm_cases_themes. The theme and the paths are made here, always the
 same: scopes of two to four parts, a quarter of them with one or two parents, a third of the rules with two scopes; paths of
-eight names of up to five parts. A number is the difference of two runs of a call, one with twice as many calls, so that what
+eight names of up to five parts, 12 of them, or as many as the argument says. A number is the difference of two runs of a call, one with twice as many calls, so that what
 the program does besides falls out. `pushed` is the last name of a path, where the parts above it are known; `meta` is the
 whole path. Prints the least, the mean and the greatest over the paths, and what is more than the target."""
 import json
@@ -18,9 +18,9 @@ TOP = os.path.dirname(os.path.dirname(os.path.abspath(__file__)))
 PROGRAM = os.path.join(TOP, "crates", "tm_cases_themes", "out", "tm_cases_themes")
 
 RULES = 300
-PATHS = 12
+PATHS = int(sys.argv[1]) if len(sys.argv) > 1 else 12
 NAMES = 8
-CALLS = 200
+CALLS = 100
 TARGETS = {"pushed": 600, "meta": 5000}
 
 FIRST = {
