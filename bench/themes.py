@@ -2,10 +2,11 @@
 """Instructions of the metadata of scopes by a theme of 300 rules, by the program of cases tm_cases_themes.
 
 Wants valgrind, and the program built: `rt run` in crates/tm_cases_themes. The theme and the paths are made here, always the
-same: scopes of two to four parts, a quarter of them with one or two parents, a third of the rules with two scopes; paths of
-eight names of up to five parts, 12 of them, or as many as the argument says. A number is the difference of two runs of a call, one with twice as many calls, so that what
-the program does besides falls out. `pushed` is the last name of a path, where the parts above it are known; `meta` is the
-whole path. Prints the least, the mean and the greatest over the paths, and what is more than the target."""
+same: scopes of two to four parts, a quarter of them with one or two parents, a third of the rules with two scopes; 12 paths,
+or as many as the argument says, of eight names of up to five parts. A number is the difference of two runs of a call, one
+with twice as many calls, so that what the program does besides falls out. `pushed` is the last name of a path, where the
+parts above it are known; `meta` is the whole path. Prints the least, the mean and the greatest over the paths, and whether
+all are within the target."""
 import json
 import os
 import random
@@ -47,7 +48,7 @@ def scope(draw, parts):
     name = [first, draw.choice(FIRST[first])]
     while len(name) < parts - 1:
         name.append(draw.choice(THIRD))
-    return ".".join((name + [draw.choice(LANGUAGES)] if parts > 2 else name))
+    return ".".join(name + [draw.choice(LANGUAGES)] if parts > 2 else name)
 
 
 def alternative(draw):
@@ -105,7 +106,8 @@ def each(call, file, path):
 
 def main():
     file = theme()
-    print("%d rules, %d scopes" % (RULES, sum(1 if isinstance(it.get("scope"), str) else len(it.get("scope", [])) for it in json.loads(file.replace("'", '"'))["tokenColors"])))
+    written = [it.get("scope", []) for it in json.loads(file.replace("'", '"'))["tokenColors"]]
+    print("%d rules, %d scopes" % (RULES, sum(1 if isinstance(it, str) else len(it) for it in written)))
     for call, target in TARGETS.items():
         found = [each(call, file, path) for path in paths()]
         print("%s: least %.0f, mean %.0f, greatest %.0f; target %d: %s" % (
