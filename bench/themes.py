@@ -95,13 +95,20 @@ def instructions(case):
     return int(re.search(r"Collected : (\d+)", run.stderr).group(1))
 
 
+def slope(make, few):
+    """Instructions of one of what `make` makes so many of."""
+    return (instructions(make(2 * few)) - instructions(make(few))) / few
+
+
 def each(call, file, path):
-    """Instructions of one such call."""
-    languages = [["source." + it, place + 2] for place, it in enumerate(LANGUAGES)]
-    few, many = (
-        instructions("%s_times %d, %s, %s, %s" % (call, count, json.dumps(file), json.dumps(languages), json.dumps(path)))
-        for count in (CALLS, 2 * CALLS))
-    return (many - few) / CALLS
+    """Instructions of one such call. A loop of `meta` alone is taken out of the program by its compiler, so of `meta` the
+    path stands many times, and the reading of it is taken off."""
+    languages = json.dumps([["source." + it, place + 2] for place, it in enumerate(LANGUAGES)])
+    file, path = json.dumps(file), json.dumps(path)
+    if call == "pushed":
+        return slope(lambda count: "pushed_times %d, %s, %s, %s" % (count, file, languages, path), CALLS)
+    known = slope(lambda count: "theme_with %s, %s, []%s" % (file, languages, (", " + path) * count), 10)
+    return known - slope(lambda count: 'selector "-"%s' % ((", " + path) * count), 10)
 
 
 def main():
