@@ -7,6 +7,7 @@
 mod selectors;
 mod texts;
 mod themes;
+mod times;
 mod words;
 
 use anyhow::Result;
@@ -18,11 +19,14 @@ use tm_cases::{Case, CaseFault, one_line};
 fn answer_of(alloc: Global, case: &Case) -> Result<String, CaseFault> {
     match case.command() {
         "selector" => selectors::priorities(alloc, case),
+        "selector_repeated" => selectors::priorities_of_repeated(alloc, case),
         "plain" => themes::by_plain(alloc, case),
         "theme" => themes::by_theme(alloc, case),
         "theme_with" => themes::by_theme_with(alloc, case),
         "many" => themes::by_many(alloc, case),
         "refused" => themes::refused(alloc, case),
+        "meta_times" => times::meta_times(alloc, case),
+        "pushed_times" => times::pushed_times(alloc, case),
         "pack" => words::packed(alloc, case),
         "unpack" => words::unpacked(alloc, case),
         _ => Err(CaseFault::NoCommand),

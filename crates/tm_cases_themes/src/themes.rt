@@ -13,7 +13,7 @@ use tm_theme::rules::MetaRules;
 use tm_theme::theme::Theme;
 
 /// The file of a case.
-fn file_of(alloc: Global, text: &str) -> Result<String, CaseFault> {
+pub(crate) fn file_of(alloc: Global, text: &str) -> Result<String, CaseFault> {
     let mut file = String::new(alloc);
     for c in text.chars() {
         file.push(if c == '\'' { '"' } else { c })?;
@@ -31,7 +31,7 @@ fn with_path(alloc: Global, kind: &str, path: &Name) -> Result<String, CaseFault
 }
 
 /// Why a file is refused.
-fn told(alloc: Global, fault: &ThemeFault) -> Result<String, CaseFault> {
+pub(crate) fn told(alloc: Global, fault: &ThemeFault) -> Result<String, CaseFault> {
     match fault {
         ThemeFault::NotJson => Ok(String::from_str(alloc, "NotJson")?),
         ThemeFault::BadShape(path) => with_path(alloc, "BadShape", path),
@@ -41,7 +41,7 @@ fn told(alloc: Global, fault: &ThemeFault) -> Result<String, CaseFault> {
     }
 }
 
-fn languages_of(alloc: Global, value: &Value) -> Result<Vec<(Name, u8)>, CaseFault> {
+pub(crate) fn languages_of(alloc: Global, value: &Value) -> Result<Vec<(Name, u8)>, CaseFault> {
     let mut languages = Vec::new(alloc);
     for pair in value.as_array().ok_or(CaseFault::NoField)? {
         let name = pair

@@ -1,0 +1,112 @@
+//! One call made many times, so that a measurement sees little else.
+
+use crate::texts::path_of;
+use crate::themes::{file_of, languages_of, told};
+use std::alloc::Global;
+use tm_cases::{Case, CaseFault};
+use tm_defs::texts::Name;
+use tm_meta::metadata::TokenType;
+use tm_selector::names::Scopes;
+use tm_theme::rules::MetaRules;
+use tm_theme::theme::{Parts, Theme};
+
+/// The first names of a path.
+#[derive(Drop)]
+struct First<'a> {
+    all: &'a [Name],
+}
+
+impl<'a> Scopes for First<'a> {
+    ghost names = { λ first. first.all.now };
+
+    fn count(&self) -> usize {
+        self.all.len()
+    }
+
+    fn scope(&self, place: usize) -> Option<&Name> {
+        self.all.get(place)
+    }
+}
+
+fn rules_of(alloc: Global, case: &Case, place: usize) -> Result<MetaRules, CaseFault> {
+    Ok(MetaRules {
+        languages: languages_of(alloc, case.value(place)?)?,
+        unbalanced: Vec::new(alloc),
+    })
+}
+
+/// `meta_times TIMES, FILE, LANGUAGES, PATH`: the word of a path, which is worked out so many times.
+pub fn meta_times(alloc: Global, case: &Case) -> Result<String, CaseFault> {
+    let times = case.number(0)?;
+    let file = file_of(alloc, case.text(1)?)?;
+    let rules = rules_of(alloc, case, 2)?;
+    let path = path_of(alloc, case.text(3)?)?;
+    match Theme::from_slice(alloc, file.as_bytes()) {
+        Ok(theme) => {
+            let mut word = 0;
+            for _ in 0..times {
+                word = theme.meta(&rules, &path);
+            }
+            Ok(format!(in alloc; "{word:08x}")?)
+        }
+        Err(fault) => told(alloc, &fault),
+    }
+}
+
+/// The parts of names, scope by scope.
+fn parts_of(theme: &Theme, rules: &MetaRules, names: &[Name]) -> Parts {
+    let mut parts = theme.base();
+    for (place, scope) in names.iter().enumerate() {
+        let above = First {
+            all: &names[..place],
+        };
+        parts = theme.pushed(rules, &above, scope, parts);
+    }
+    parts
+}
+
+fn token_type(parts: Parts) -> u8 {
+    match parts.token_type {
+        TokenType::Other => 0,
+        TokenType::Comment => 1,
+        TokenType::Text => 2,
+        TokenType::Regex => 3,
+    }
+}
+
+fn printed(alloc: Global, parts: Parts) -> Result<String, CaseFault> {
+    let look = parts.look;
+    let mut answer = format!(in alloc; "{} {}", parts.language, token_type(parts))?;
+    answer.push_str(format!(in alloc;
+        " {} {} {}",
+        look.font, look.foreground, look.background
+    )?.as_str())?;
+    Ok(answer)
+}
+
+/// The parts of a path, whose last name is put below the others so many times.
+fn parts_times(theme: &Theme, rules: &MetaRules, names: &[Name], times: u64) -> Parts {
+    let [above @ .., scope] = names else {
+        return theme.base();
+    };
+    let known = parts_of(theme, rules, above);
+    let above = First { all: above };
+    let mut parts = known;
+    for _ in 0..times {
+        parts = theme.pushed(rules, &above, scope, known);
+    }
+    parts
+}
+
+/// `pushed_times TIMES, FILE, LANGUAGES, PATH`: the parts of a path, `LANGUAGE TYPE FONT FOREGROUND BACKGROUND`, where
+/// those of its last name are worked out so many times from those above it.
+pub fn pushed_times(alloc: Global, case: &Case) -> Result<String, CaseFault> {
+    let times = case.number(0)?;
+    let file = file_of(alloc, case.text(1)?)?;
+    let rules = rules_of(alloc, case, 2)?;
+    let path = path_of(alloc, case.text(3)?)?;
+    match Theme::from_slice(alloc, file.as_bytes()) {
+        Ok(theme) => printed(alloc, parts_times(&theme, &rules, path.as_slice(), times)),
+        Err(fault) => told(alloc, &fault),
+    }
+}
