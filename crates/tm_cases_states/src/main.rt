@@ -2,6 +2,7 @@
 //! on the standard output. Each case works on the tables that the cases before it left.
 #![tactic(auto)]
 
+mod copies;
 mod scopes;
 mod states;
 mod values;
@@ -45,6 +46,8 @@ fn answer(alloc: Global, tables: &mut Tables, line: &str) -> Result<String, Case
         "fill" => states::fill(alloc, &mut tables.states, &case)?,
         "times" => states::times(alloc, &mut tables.states, &case)?,
         "sizes" => states::sizes(alloc, &tables.states)?,
+        "number_of" => copies::listed(alloc, &mut tables.states, &case)?,
+        "copied" => copies::copied(alloc, &case)?,
         _ => return Err(CaseFault::NoCommand),
     };
     one_line(alloc, text.as_str())

@@ -39,7 +39,7 @@ fn frame_of(alloc: Global, text: &str) -> Result<FrameData, CaseFault> {
     })
 }
 
-fn state_of(alloc: Global, text: &str) -> Result<StateData, CaseFault> {
+pub(crate) fn state_of(alloc: Global, text: &str) -> Result<StateData, CaseFault> {
     let mut frames = Vec::new(alloc);
     if !text.is_empty() {
         for frame in text.split(" / ") {
@@ -72,7 +72,11 @@ fn write_frame(alloc: Global, into: &mut String, frame: &FrameData) -> Result<()
     Ok(())
 }
 
-fn write_state(alloc: Global, into: &mut String, state: &StateData) -> Result<(), CaseFault> {
+pub(crate) fn write_state(
+    alloc: Global,
+    into: &mut String,
+    state: &StateData,
+) -> Result<(), CaseFault> {
     let mut first = true;
     for frame in state.as_slice() {
         if !first {
