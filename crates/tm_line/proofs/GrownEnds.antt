@@ -3,7 +3,7 @@ use Rattle.std.proofs.Common.{◌≡◌, ◌<◌, List, [], ◌∷◌, length, l
 use Rattle.std.proofs.Math.ListN.{get_or-append}
 use Rattle.tm_defs.specs.declared.frames.TextId.{TextId}
 use Rattle.tm_defs.specs.Tables.{Tables, TableEntries, GrowsWithin, text_at}
-use Rattle.tm_onig_parse.specs.Reading.{parsed}
+use Rattle.tm_onig_parse.specs.Parsed.{parsed}
 use Rattle.tm_line.specs.MadeEnds.{AreMadeEnds}
 use Rattle.tm_line.specs.declared.ends.MadeEnd.{MadeEnd}
 

@@ -2,7 +2,7 @@
 use Rattle.std.specs.Prelude.{◌≡◌, ℕ, ◌<◌, List, [], ◌∷◌, length, Some, slice_get}
 use Rattle.tm_defs.specs.Tables.{Tables, text_at}
 use Rattle.tm_defs.specs.declared.frames.TextId.{TextId}
-use Rattle.tm_onig_parse.specs.Reading.{parsed}
+use Rattle.tm_onig_parse.specs.Parsed.{parsed}
 use Rattle.tm_onig_scan.specs.Winner.{trees_of}
 use Rattle.tm_line.specs.declared.ends.MadeEnd.{MadeEnd}
 

@@ -4,7 +4,7 @@
 //! from the same position to its first match, and what the one leaves of the budget is the budget of the other.
 ghost use Rattle.std.specs.Prelude.{◌≡◌, ◌≤◌, ◌<◌, ◌^◌, ◌∷◌, [], ℕ, List, Some, length, option_map, slice_get};
 ghost use Rattle.tm_defs.specs.Tables.{IsFrameOf, frame_at};
-ghost use Rattle.tm_onig_parse.specs.Reading.{parsed};
+ghost use Rattle.tm_onig_parse.specs.Parsed.{parsed};
 ghost use Rattle.tm_onig_scan.specs.Rows.{AreCandidates};
 ghost use Rattle.tm_onig_scan.specs.Winner.{start_of, trees_of};
 ghost use Rattle.tm_line.specs.Insides.{starts_read};

@@ -1,7 +1,7 @@
 -- Which patterns of rules are unreadable.
 use Rattle.std.specs.Prelude.{ℕ, List, [], ◌∷◌, ◌++◌, chars, codes, Option, Some, None, option_map}
 use Rattle.tm_onig_class.specs.Tree.{Tree}
-use Rattle.tm_onig_parse.specs.Reading.{parsed}
+use Rattle.tm_onig_parse.specs.Parsed.{parsed}
 use Rattle.tm_template.specs.Ends.{resolved}
 use Rattle.tm_defs.specs.declared.rules.Rule.{Rule}
 use Rattle.tm_rules.specs.Readers.{grammar_in, path_in, own_match, own_begin, own_end, own_while}

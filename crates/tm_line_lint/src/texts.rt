@@ -1,7 +1,7 @@
 //! The texts of a rule's patterns, each tried as a pattern.
 ghost use Rattle.std.specs.Prelude.{◌≡◌, ◌++◌, chars, codes, option_map, IfOk, OnOk};
 ghost use Rattle.std.specs.Option.{is_none};
-ghost use Rattle.tm_onig_parse.specs.Reading.{parsed};
+ghost use Rattle.tm_onig_parse.specs.Parsed.{parsed};
 ghost use Rattle.tm_line_lint.specs.Unread.{key_path, unread_at, unread_if, unread_in, tried};
 
 use crate::Unread;

@@ -4,10 +4,10 @@ use Rattle.tm_onig_class.specs.Tree.{Tree, IsOne}
 use Rattle.tm_onig_atom.specs.declared.options.Options.{Options}
 use Rattle.tm_onig_atom.specs.declared.fault.AtomFault.{AtomFault}
 use Rattle.tm_onig_atom.specs.Escapes.{Escape, BeginsEscape, escape_tree}
-use Rattle.tm_onig_atom.specs.Reading.{escape_at}
+use Rattle.tm_onig_atom.specs.inner.Reading.{escape_at}
 use Rattle.tm_onig_atom.specs.Classes.{Class, BeginsClass, class_height, class_tree}
-use Rattle.tm_onig_atom.specs.ClassReading.{class_at}
-use Rattle.tm_onig_atom.specs.Views.{Gives}
+use Rattle.tm_onig_atom.specs.inner.ClassReading.{class_at}
+use Rattle.tm_onig_atom.specs.inner.Views.{Gives}
 use Rattle.tm_onig_atom.proofs.EscapeExact.{escape_again, escape_found, escape_one}
 use Rattle.tm_onig_atom.proofs.ClassExact.{class_again, class_found, class_one}
 

@@ -9,9 +9,9 @@ use Rattle.tm_onig_atom.specs.declared.parts.Part.TheVariants.{Adds, Meets, Inne
 use Rattle.tm_onig_atom.specs.declared.parts.Front.{Front}
 use Rattle.tm_onig_atom.specs.declared.parts.Front.TheVariants as F
 use Rattle.tm_onig_atom.specs.Escapes.{begins}
-use Rattle.tm_onig_atom.specs.Reading.{◌>>=◌}
+use Rattle.tm_onig_atom.specs.inner.Reading.{◌>>=◌}
 use Rattle.tm_onig_atom.specs.Classes.{Class, inside, IsClass, class_height, class_members, class_tree}
-use Rattle.tm_onig_atom.specs.ClassReading.{front_at, Body, Reader, inner_part, part_from, part_at, parts_at, parts_on, part_height, highest, body_of, items_of, signed_at, body_at, class_at}
+use Rattle.tm_onig_atom.specs.inner.ClassReading.{front_at, Body, Reader, inner_part, part_from, part_at, parts_at, parts_on, part_height, highest, body_of, items_of, signed_at, body_at, class_at}
 use Rattle.tm_onig_atom.proofs.Texts.{chosen, bind_ok, map_ok, some_same}
 use Rattle.tm_onig_atom.proofs.ClassItems.{body_again, body_found}
 

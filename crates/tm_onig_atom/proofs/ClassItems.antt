@@ -8,9 +8,9 @@ use Rattle.tm_onig_atom.specs.declared.parts.Part.TheVariants.{Adds, Meets, Inne
 use Rattle.tm_onig_atom.specs.declared.parts.Front.{Front}
 use Rattle.tm_onig_atom.specs.declared.parts.Front.TheVariants as F
 use Rattle.tm_onig_atom.specs.Escapes.{begins}
-use Rattle.tm_onig_atom.specs.Reading.{◌>>=◌}
+use Rattle.tm_onig_atom.specs.inner.Reading.{◌>>=◌}
 use Rattle.tm_onig_atom.specs.Classes.{Single, Raw, Slash, single_text, IsSingle, NoPosix, Class, Of, Items, NoItems, Also, Item, One, Range, Escaped, Posix, Nested, And, item_text, items_text, inside, IsItem, AreItems, IsClass, class_height, items_height, item_height, class_members, part_of, parts_of, class_ranges}
-use Rattle.tm_onig_atom.specs.ClassReading.{front_at, Body, Reader, inner_part, part_from, part_at, closes_at, parts_at, parts_on, part_height, highest, body_of, signed_at, body_at}
+use Rattle.tm_onig_atom.specs.inner.ClassReading.{front_at, Body, Reader, inner_part, part_from, part_at, closes_at, parts_at, parts_on, part_height, highest, body_of, signed_at, body_at}
 use Rattle.tm_onig_atom.proofs.Texts.{chosen, bind_ok}
 use Rattle.tm_onig_atom.proofs.Front.{raw_close, front_of, behind, front_again, ReadsItem, ReadsFront, front_found}
 

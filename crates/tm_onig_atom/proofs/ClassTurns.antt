@@ -7,9 +7,9 @@ use Rattle.tm_onig_atom.specs.declared.parts.Part.{Part}
 use Rattle.regex_class.specs.Ranges.{Range as CharRange}
 use Rattle.tm_onig_atom.specs.Classes.{class_members}
 use Rattle.tm_onig_atom.specs.Escapes.{begins}
-use Rattle.tm_onig_atom.specs.Reading.{◌>>=◌, rest_of}
-use Rattle.tm_onig_atom.specs.ClassReading.{Reader, front_at, part_at, closes_at, parts_at, parts_on, with_front, body_of, items_of, signed_at, highest, body_at}
-use Rattle.tm_onig_atom.specs.Views.{Fails}
+use Rattle.tm_onig_atom.specs.inner.Reading.{◌>>=◌, rest_of}
+use Rattle.tm_onig_atom.specs.inner.ClassReading.{Reader, front_at, part_at, closes_at, parts_at, parts_on, with_front, body_of, items_of, signed_at, highest, body_at}
+use Rattle.tm_onig_atom.specs.inner.Views.{Fails}
 use Rattle.tm_onig_atom.proofs.ClassItems.{PartsRead, BodyRead, item_long, part_found, body_found}
 use Rattle.tm_onig_atom.proofs.ClassExact.{body_low, parts_low}
 

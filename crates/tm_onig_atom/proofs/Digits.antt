@@ -9,7 +9,7 @@ use Rattle.std.proofs.Math.Nat.{pow-suc, mul-le-mul_left}
 use Rattle.std.proofs.lemmas.Bool.Decides.{nat_tests}
 use Rattle.tm_onig_class.specs.Members.{IsChar, is_char}
 use Rattle.tm_onig_atom.specs.Escapes.{begins, begins_digit, AreDigits, EndsDigits}
-use Rattle.tm_onig_atom.specs.Reading.{digits_at, with_text, by_number, closed_number, braced_at, hex_at}
+use Rattle.tm_onig_atom.specs.inner.Reading.{digits_at, with_text, by_number, closed_number, braced_at, hex_at}
 use Rattle.tm_onig_atom.proofs.Texts.{chosen}
 
 -- no more

@@ -12,7 +12,7 @@ use Rattle.tm_onig_atom.specs.declared.meanings.Named.{Named}
 use Rattle.tm_onig_atom.specs.declared.meanings.Meant.{Meant}
 use Rattle.tm_onig_atom.specs.declared.meanings.Meant.TheVariants.{Character, Members}
 use Rattle.tm_onig_atom.specs.Escapes.{begins, set_letter, is_no_char, escaped_char, Escape, Sign, Short, Hex, Braced, Unicode, Octal, Property, escape_head, escape_text, IsEscape, meant, meant_tree, escape_tree}
-use Rattle.tm_onig_atom.specs.Reading.{◌>>=◌, by_number, digits_at, hex_at, before, named_as, name_at, caret_at, property_at, as_char, sign_or, sign_meant, meant_at, escape_at}
+use Rattle.tm_onig_atom.specs.inner.Reading.{◌>>=◌, by_number, digits_at, hex_at, before, named_as, name_at, caret_at, property_at, as_char, sign_or, sign_meant, meant_at, escape_at}
 use Rattle.tm_onig_atom.proofs.Texts.{chosen, bind_ok, map_ok, differs, before_again, before_found}
 use Rattle.tm_onig_atom.proofs.Digits.{number_again, number_found, hex_again, braced_again, braced_found}
 

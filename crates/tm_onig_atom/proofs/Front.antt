@@ -10,9 +10,9 @@ use Rattle.tm_onig_atom.specs.declared.parts.Part.TheVariants.{Adds, Meets}
 use Rattle.tm_onig_atom.specs.declared.parts.Front.{Front}
 use Rattle.tm_onig_atom.specs.declared.parts.Front.TheVariants as F
 use Rattle.tm_onig_atom.specs.Escapes.{begins, of_listed}
-use Rattle.tm_onig_atom.specs.Reading.{◌>>=◌, rest_of, meant_at}
+use Rattle.tm_onig_atom.specs.inner.Reading.{◌>>=◌, rest_of, meant_at}
 use Rattle.tm_onig_atom.specs.Classes.{is_raw, Single, Raw, Slash, single_text, value_of, IsSingle, NoRange, NoPosix, Item, One, Range, Escaped, Posix, Nested, And, item_text, inside, IsItem, part_of}
-use Rattle.tm_onig_atom.specs.ClassReading.{char_only, single_at, Fronted, range_to, after_single, after_meant, posix_at, or_opens, front_at}
+use Rattle.tm_onig_atom.specs.inner.ClassReading.{char_only, single_at, Fronted, range_to, after_single, after_meant, posix_at, or_opens, front_at}
 use Rattle.tm_onig_atom.proofs.Texts.{chosen, bind_ok}
 use Rattle.tm_onig_atom.proofs.EscapeExact.{ReadsEscape, meant_again, meant_found}
 use Rattle.tm_onig_atom.proofs.PosixExact.{NameRead, behind_open, posix_whole, posix_again, posix_found, no_posix, lacks_posix}

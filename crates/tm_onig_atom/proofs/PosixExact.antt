@@ -6,9 +6,9 @@ use Rattle.std.proofs.lemmas.Bool.{cases_Bool, eqb-true}
 use Rattle.tm_onig_class.specs.declared.listed.Listed.{Listed}
 use Rattle.tm_onig_atom.specs.declared.meanings.Named.{Named}
 use Rattle.tm_onig_atom.specs.Escapes.{begins, of_listed}
-use Rattle.tm_onig_atom.specs.Reading.{◌>>=◌, before}
+use Rattle.tm_onig_atom.specs.inner.Reading.{◌>>=◌, before}
 use Rattle.tm_onig_atom.specs.Classes.{class_name, posix_text, IsPosix, NoPosix}
-use Rattle.tm_onig_atom.specs.ClassReading.{posix_end, posix_name, posix_caret, posix_at}
+use Rattle.tm_onig_atom.specs.inner.ClassReading.{posix_end, posix_name, posix_caret, posix_at}
 use Rattle.tm_onig_atom.proofs.Texts.{chosen, bind_ok, map_ok, before_again, before_found}
 
 -- what is read of a name

@@ -12,7 +12,7 @@ use Rattle.tm_onig_atom.specs.declared.parts.Part.{Part}
 use Rattle.tm_onig_atom.specs.declared.parts.Part.TheVariants.{Adds, Meets, Inner}
 use Rattle.tm_onig_atom.specs.Widening.{alike, widened}
 use Rattle.tm_onig_atom.specs.Classes.{member_has, part_has, side_has, later_have}
-use Rattle.tm_onig_atom.specs.Sides.{met_after, side_after, walked}
+use Rattle.tm_onig_atom.specs.inner.Sides.{met_after, side_after, walked}
 
 -- tests that agree
 any_below-same : (n : ℕ) (f g : ℕ → Bool) → ((c : ℕ) → f c ≡ g c) → any_below n f ≡ any_below n g

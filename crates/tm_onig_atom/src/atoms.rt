@@ -4,9 +4,9 @@ ghost use Rattle.tm_onig_class.specs.Tree.{IsOne, Tree, tree_of};
 ghost use Rattle.tm_onig_atom.specs.declared.meanings.Meant.TheVariants.{Members};
 ghost use Rattle.tm_onig_atom.specs.Escapes.{Escape, BeginsEscape, meant_tree, escape_tree};
 ghost use Rattle.tm_onig_atom.specs.Classes.{Class, BeginsClass, class_height, class_tree};
-ghost use Rattle.tm_onig_atom.specs.ClassReading.{class_at};
-ghost use Rattle.tm_onig_atom.specs.Reading.{escape_at};
-ghost use Rattle.tm_onig_atom.specs.Views.{Gives};
+ghost use Rattle.tm_onig_atom.specs.inner.ClassReading.{class_at};
+ghost use Rattle.tm_onig_atom.specs.inner.Reading.{escape_at};
+ghost use Rattle.tm_onig_atom.specs.inner.Views.{Gives};
 
 use crate::classes::class_body;
 use crate::escapes::read_escape;

@@ -8,7 +8,7 @@ ghost use Rattle.regex_class.specs.Ranges.{in_ranges};
 ghost use Rattle.tm_onig_class.specs.Members.{has_char, IsChar};
 ghost use Rattle.tm_onig_atom.specs.Widening.{widened};
 ghost use Rattle.tm_onig_atom.specs.Classes.{member_has, side_has, later_have, class_has};
-ghost use Rattle.tm_onig_atom.specs.Sides.{met_has, side_now, met_after, side_after};
+ghost use Rattle.tm_onig_atom.specs.inner.Sides.{met_has, side_now, met_after, side_after};
 
 use crate::parts::{Member, Part};
 use crate::store::{Sets, widen};

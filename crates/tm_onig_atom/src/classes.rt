@@ -1,8 +1,8 @@
 //! Classes: their text from the `[` to the `]` that ends them, with the classes nested in them.
 ghost use Rattle.std.specs.Prelude.{◌≡◌, true};
 ghost use Rattle.tm_onig_atom.specs.Escapes.{begins};
-ghost use Rattle.tm_onig_atom.specs.ClassReading.{items_of, part_at, parts_on, closes_at, part_height, highest, body_at};
-ghost use Rattle.tm_onig_atom.specs.Views.{Gives};
+ghost use Rattle.tm_onig_atom.specs.inner.ClassReading.{items_of, part_at, parts_on, closes_at, part_height, highest, body_at};
+ghost use Rattle.tm_onig_atom.specs.inner.Views.{Gives};
 
 use crate::class_sets::class_set;
 use crate::fault::AtomFault;

@@ -1,8 +1,8 @@
 //! Escapes: what a backslash makes of what follows it.
 ghost use Rattle.std.specs.Prelude.{◌≡◌, Some};
 ghost use Rattle.tm_onig_atom.specs.Escapes.{of_listed, set_letter, escaped_char};
-ghost use Rattle.tm_onig_atom.specs.Reading.{name_at, property_at, sign_meant, meant_at};
-ghost use Rattle.tm_onig_atom.specs.Views.{Gives};
+ghost use Rattle.tm_onig_atom.specs.inner.Reading.{name_at, property_at, sign_meant, meant_at};
+ghost use Rattle.tm_onig_atom.specs.inner.Views.{Gives};
 
 use crate::fault::AtomFault;
 use crate::meanings::{Meant, Named};
@@ -74,7 +74,7 @@ fn by_name(alloc: Global, negated: bool, text: &[char]) -> Result<(Meant, &[char
 }
 
 /// What follows `\p` or `\P`.
-#[tactic(auto, unfolding(crate::specs::Reading::property_at))]
+#[tactic(auto, unfolding(crate::specs::inner::Reading::property_at))]
 fn property(alloc: Global, negated: bool, text: &[char]) -> Result<(Meant, &[char]), AtomFault>
     ensures { Gives (λ x. (x.0, x.1.now)) result (property_at negated text.now) }
 {
@@ -99,7 +99,7 @@ fn one(c: char) -> Option<Meant>
 }
 
 /// What follows a backslash, and the text behind it.
-#[tactic(auto, unfolding(crate::specs::Reading::meant_at))]
+#[tactic(auto, unfolding(crate::specs::inner::Reading::meant_at))]
 pub(crate) fn read_escape(alloc: Global, text: &[char]) -> Result<(Meant, &[char]), AtomFault>
     ensures { Gives (λ x. (x.0, x.1.now)) result (meant_at text.now) }
 {

@@ -1,8 +1,8 @@
 //! The text of classes, one item at a time.
 ghost use Rattle.std.specs.Prelude.{◌≡◌, Some};
 ghost use Rattle.tm_onig_atom.specs.Classes.{is_raw};
-ghost use Rattle.tm_onig_atom.specs.ClassReading.{single_at, after_single, slash_at, or_opens, posix_at, front_at};
-ghost use Rattle.tm_onig_atom.specs.Views.{Gives};
+ghost use Rattle.tm_onig_atom.specs.inner.ClassReading.{single_at, after_single, slash_at, or_opens, posix_at, front_at};
+ghost use Rattle.tm_onig_atom.specs.inner.Views.{Gives};
 
 use crate::escapes::read_escape;
 use crate::fault::AtomFault;
@@ -24,7 +24,7 @@ fn raw(first: bool, c: char) -> bool
 }
 
 /// A character, itself or escaped, behind another.
-#[tactic(auto, unfolding(crate::specs::ClassReading::single_at))]
+#[tactic(auto, unfolding(crate::specs::inner::ClassReading::single_at))]
 fn single(alloc: Global, text: &[char]) -> Result<(char, &[char]), AtomFault>
     ensures { Gives (λ x. (x.0, x.1.now)) result (single_at text.now) }
 {
@@ -46,7 +46,7 @@ fn single(alloc: Global, text: &[char]) -> Result<(char, &[char]), AtomFault>
 }
 
 /// What a character begins: a range, or itself.
-#[tactic(auto, unfolding(crate::specs::ClassReading::after_single))]
+#[tactic(auto, unfolding(crate::specs::inner::ClassReading::after_single))]
 fn after(alloc: Global, value: char, text: &[char]) -> Result<(Front, &[char]), AtomFault>
     ensures { Gives (λ x. (x.0, x.1.now)) result (after_single value text.now) }
 {
@@ -89,7 +89,7 @@ fn open(text: &[char]) -> (Front, &[char])
 
 /// What stands at the front, and what follows it. `first` says that it stands directly behind the `[`
 /// or the `^` of the class.
-#[tactic(auto, unfolding(crate::specs::ClassReading::front_at))]
+#[tactic(auto, unfolding(crate::specs::inner::ClassReading::front_at))]
 pub(crate) fn front(
     alloc: Global,
     first: bool,

@@ -1,7 +1,7 @@
 //! What matches by itself in a pattern: escapes, sets by name, and classes.
 //!
 //! The grammar is a definition apart (`specs/Escapes.antt`, `specs/Classes.antt`), and so is the reading
-//! that the code follows (`specs/Reading.antt`, `specs/ClassReading.antt`). A call is nested for each
+//! that the code follows (`specs/inner/Reading.antt`, `specs/inner/ClassReading.antt`). A call is nested for each
 //! class within a class, and for nothing else.
 #![tactic(auto)]
 

@@ -1,7 +1,7 @@
 //! Characters that are given by their numbers.
 ghost use Rattle.std.specs.Prelude.{◌≡◌, ◌≤◌};
-ghost use Rattle.tm_onig_atom.specs.Reading.{digits_at, numbered, with_text, by_number, as_char, braced_at, hex_at};
-ghost use Rattle.tm_onig_atom.specs.Views.{Gives};
+ghost use Rattle.tm_onig_atom.specs.inner.Reading.{digits_at, numbered, with_text, by_number, as_char, braced_at, hex_at};
+ghost use Rattle.tm_onig_atom.specs.inner.Views.{Gives};
 
 use crate::fault::AtomFault;
 use crate::meanings::Meant;
@@ -14,7 +14,7 @@ pub struct Number {
 }
 
 /// The number of the digits at the front, at most so many, and what stands behind them.
-#[tactic(auto, unfolding(crate::specs::Reading::digits_at))]
+#[tactic(auto, unfolding(crate::specs::inner::Reading::digits_at))]
 fn digits(base: u32, most: u32, text: &[char]) -> (Number, &[char])
     requires least { 2 ≤ base }
     requires greatest { base ≤ 16 }
@@ -78,7 +78,7 @@ pub fn by_number(
 }
 
 /// What follows `\x{`.
-#[tactic(auto, unfolding(crate::specs::Reading::braced_at))]
+#[tactic(auto, unfolding(crate::specs::inner::Reading::braced_at))]
 fn braced(text: &[char]) -> Result<(Meant, &[char]), AtomFault>
     ensures { Gives (λ x. (x.0, x.1.now)) result (as_char (braced_at text.now)) }
 {
@@ -90,7 +90,7 @@ fn braced(text: &[char]) -> Result<(Meant, &[char]), AtomFault>
 }
 
 /// What follows `\x`: one or two digits, or up to six between braces.
-#[tactic(auto, unfolding(crate::specs::Reading::hex_at))]
+#[tactic(auto, unfolding(crate::specs::inner::Reading::hex_at))]
 pub fn hex(text: &[char]) -> Result<(Meant, &[char]), AtomFault>
     ensures { Gives (λ x. (x.0, x.1.now)) result (as_char (hex_at text.now)) }
 {

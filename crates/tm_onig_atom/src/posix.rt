@@ -1,7 +1,7 @@
 //! Names of sets in classes, between `[:` and `:]`.
 ghost use Rattle.std.specs.Prelude.{◌≡◌, bytes_eq, option_map};
 ghost use Rattle.tm_onig_atom.specs.Classes.{class_name};
-ghost use Rattle.tm_onig_atom.specs.ClassReading.{posix_name, posix_at};
+ghost use Rattle.tm_onig_atom.specs.inner.ClassReading.{posix_name, posix_at};
 
 use crate::meanings::Named;
 use crate::slices::before;
@@ -73,7 +73,7 @@ fn name(negated: bool, text: &[char]) -> Option<(Named, &[char])>
 }
 
 /// The set that is named directly behind a `[`, and what follows.
-#[tactic(auto, unfolding(crate::specs::ClassReading::posix_at))]
+#[tactic(auto, unfolding(crate::specs::inner::ClassReading::posix_at))]
 pub(crate) fn posix(text: &[char]) -> Option<(Named, &[char])>
     ensures { option_map (λ x. (x.0, x.1.now)) result ≡ posix_at text.now }
 {

@@ -1,7 +1,7 @@
 //! Fronts and rests of texts.
 ghost use Rattle.std.specs.Prelude.{◌≡◌, ◌==◌, ◌&&◌, option_map};
 ghost use Rattle.tm_onig_atom.specs.Escapes.{begins};
-ghost use Rattle.tm_onig_atom.specs.Reading.{before, rest_of};
+ghost use Rattle.tm_onig_atom.specs.inner.Reading.{before, rest_of};
 
 /// The characters before the next such character, and what stands behind it.
 pub(crate) fn before(end: char, text: &[char]) -> Option<(&[char], &[char])>

@@ -11,8 +11,8 @@ use Rattle.tm_onig_atom.specs.NoOptions.{no_options}
 use Rattle.tm_onig_parse.specs.Things.{Opening, inside, opener_of, count, Amount, Mark, least_of, greatest_of, manner_of, Skip, Tok, Toks, Single, Opens, Setting, Closing, Bar, Times, Skipped}
 use Rattle.tm_onig_parse.specs.Grammar.{Body, Simply, Under, Alts, First, Also, Row, Nothing, Then, Noted, Piece, Alone, Inside, Repeated, Behind, end_options, written, written_alts, written_row, written_piece, groups, groups_alts, groups_row, groups_piece}
 use Rattle.tm_onig_parse.specs.Meaning.{Built, enclosed, quantified, rows, parts, piece_built, built, meaning}
-use Rattle.tm_onig_atom.specs.Reading.{◌>>=◌}
-use Rattle.tm_onig_parse.specs.Reading.{Close, Or, Repeats, Level, State, added, level_built, is_set, settled, close_in, within, more_times, change_last, step, finish_in, finish}
+use Rattle.tm_onig_atom.specs.inner.Reading.{◌>>=◌}
+use Rattle.tm_onig_parse.specs.inner.Reading.{Close, Or, Repeats, Level, State, added, level_built, is_set, settled, close_in, within, more_times, change_last, step, finish_in, finish}
 use Rattle.tm_onig_atom.proofs.Texts.{bind_ok}
 use Rattle.tm_onig_parse.proofs.OneRead.{sym_of}
 use Rattle.tm_onig_parse.proofs.Structure.{Kind, kind, level, change_last-snoc, done_body, last_body, whole_body, opening_set, same_opened}

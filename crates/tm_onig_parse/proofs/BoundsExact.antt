@@ -5,7 +5,7 @@ use Rattle.std.specs.List.{list_all}
 use Rattle.std.specs.Char.{is_ascii_digit}
 use Rattle.std.proofs.lemmas.Bool.{cases_Bool, eqb-true, and_parts, both_ways}
 use Rattle.tm_onig_parse.specs.Intervals.{Bounds, Exactly, Between, bounds_text, IsBounds, NoBounds}
-use Rattle.tm_onig_parse.specs.Reading.{digits_at, ends_bounds, after_digits, bounds_at}
+use Rattle.tm_onig_parse.specs.inner.Reading.{digits_at, ends_bounds, after_digits, bounds_at}
 use Rattle.tm_onig_atom.proofs.Texts.{chosen}
 
 -- there are some

@@ -8,7 +8,7 @@ use Rattle.std.proofs.lemmas.Bool.{and_parts, leb-true}
 use Rattle.std.proofs.lemmas.Bool.Decides.{nat_tests}
 use Rattle.std.proofs.lemmas.Option.{cond_some}
 use Rattle.tm_onig_parse.specs.Intervals.{Bounds, Exactly, Between, bounds_text, IsBounds, least_in, greatest_in, AreLimited}
-use Rattle.tm_onig_parse.specs.Reading.{limited, with_digit, number_at, ordered, second_at, first_at, interval_at}
+use Rattle.tm_onig_parse.specs.inner.Reading.{limited, with_digit, number_at, ordered, second_at, first_at, interval_at}
 
 -- an ASCII digit has a value below 10
 pub digit_below : (c : ℕ) → is_ascii_digit c ≡ true → nat_lt (digit_value c) 10 ≡ true

@@ -7,8 +7,8 @@ use Rattle.tm_onig_parse.specs.declared.groups.Opener.TheVariants.{Sets}
 use Rattle.tm_onig_parse.specs.Names.{Names}
 use Rattle.tm_onig_parse.specs.Things.{Plain, Escaped, Placed, Bracketed, Refers, back_tree, Opening, opener_of, name_of, inside, begun, count, Tok, Toks, Single, Opens, Setting, Closing, Bar, Times, Skipped, text_of, IsTok, spelling, AreToks, names_begun, names_among}
 use Rattle.tm_onig_parse.specs.Meaning.{Built, enclosed}
-use Rattle.tm_onig_atom.specs.Reading.{◌>>=◌}
-use Rattle.tm_onig_parse.specs.Reading.{Level, State, added, level_built, is_set, settled, close_in, within, entered, step, token_at, Outline, outline_step, outline_close, names_read}
+use Rattle.tm_onig_atom.specs.inner.Reading.{◌>>=◌}
+use Rattle.tm_onig_parse.specs.inner.Reading.{Level, State, added, level_built, is_set, settled, close_in, within, entered, step, token_at, Outline, outline_step, outline_close, names_read}
 use Rattle.tm_onig_atom.proofs.Texts.{bind_ok}
 use Rattle.tm_onig_parse.proofs.OneRead.{sym_of}
 use Rattle.tm_onig_parse.proofs.Lexing.{token_again, text_length}

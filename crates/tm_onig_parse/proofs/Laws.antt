@@ -15,9 +15,10 @@ use Rattle.tm_onig_parse.specs.Names.{Names}
 use Rattle.tm_onig_parse.specs.Things.{Tok, Toks, Single, Opens, Setting, Closing, Bar, Times, Skipped, text_of, IsTok, spelling, AreToks}
 use Rattle.tm_onig_parse.specs.Grammar.{Body, Nothing, written, groups}
 use Rattle.tm_onig_parse.specs.Meaning.{Built, bodies, built, meaning, names_in, Spells}
-use Rattle.tm_onig_atom.specs.Reading.{◌>>=◌}
-use Rattle.tm_onig_parse.specs.Reading.{Sym, Level, State, start, token_at, step, settled, close_in, finish, read, onward, outline_start, names_onward, parsed}
-use Rattle.tm_onig_parse.specs.Views.{Gives}
+use Rattle.tm_onig_atom.specs.inner.Reading.{◌>>=◌}
+use Rattle.tm_onig_parse.specs.inner.Reading.{Sym, Level, State, start, token_at, step, settled, close_in, finish, read, onward, outline_start, names_onward}
+use Rattle.tm_onig_parse.specs.Parsed.{parsed}
+use Rattle.tm_onig_parse.specs.inner.Views.{Gives}
 use Rattle.tm_onig_atom.proofs.Texts.{bind_ok}
 use Rattle.tm_onig_parse.proofs.OneRead.{sym_of}
 use Rattle.tm_onig_parse.proofs.Lexing.{token_again, token_found, text_length}

@@ -6,10 +6,10 @@ use Rattle.std.proofs.lemmas.Bool.{cases_Bool, eqb-true, eq-eqb, and_parts}
 use Rattle.tm_onig_class.specs.Tree.{Tree, Holds}
 use Rattle.tm_onig_class.specs.declared.patterns.Position.{Position}
 use Rattle.tm_onig_atom.specs.declared.options.Options.{Options}
-use Rattle.tm_onig_atom.specs.ClassReading.{class_at}
+use Rattle.tm_onig_atom.specs.inner.ClassReading.{class_at}
 use Rattle.tm_onig_atom.specs.Classes.{Class, inside, class_height}
 use Rattle.tm_onig_atom.specs.Escapes.{Escape, escape_head, escape_text}
-use Rattle.tm_onig_atom.specs.Reading as Atoms
+use Rattle.tm_onig_atom.specs.inner.Reading as Atoms
 use Rattle.tm_onig_atom.proofs.ClassExact.{class_again, class_found}
 use Rattle.tm_onig_atom.proofs.EscapeExact.{escape_again as character_again, escape_found as character_found}
 use Rattle.tm_onig_atom.proofs.Texts.{chosen, differs, or_parts}
@@ -19,7 +19,7 @@ use Rattle.tm_onig_parse.specs.Intervals.{Bounds, bounds_text, IsBounds, NoBound
 use Rattle.tm_onig_parse.specs.Names.{Names, reference_text, key_of, meant_in}
 use Rattle.tm_onig_parse.specs.Things.{is_blank, skips, begins_reference, back_tree, Atom, Plain, Escaped, Placed, Bracketed, Refers, atom_text, IsAtom, Opening, Capture, Named, Group, Keep, Look, opening_text, sign_bounds, Amount, Sign, Braces, amount_text, IsAmount, least_of, greatest_of, Mark, mark_text, EndsMark, takes_plus, with_question, manner_of, Skip, Comment, Blank, Remark, skip_text, ends_line, IsSkip, Tok, Single, Opens, Setting, Closing, Bar, Times, Skipped, text_of, IsTok}
 use Rattle.tm_onig_parse.specs.Meaning.{atom_built, nested, leaf}
-use Rattle.tm_onig_parse.specs.Reading.{Sym, Means, Repeats, Skips, Found, bounds_at, comment_at, open_at, groups_at, times_at, interval_at, braces_at, means, means_escape, place_or, escape_at, means_class, line_end, bounds_or, sign_or, token_at}
+use Rattle.tm_onig_parse.specs.inner.Reading.{Sym, Means, Repeats, Skips, Found, bounds_at, comment_at, open_at, groups_at, times_at, interval_at, braces_at, means, means_escape, place_or, escape_at, means_class, line_end, bounds_or, sign_or, token_at}
 use Rattle.tm_onig_parse.proofs.BoundsExact.{bounds_again, bounds_found, no_bounds, lacks_bounds}
 use Rattle.tm_onig_parse.proofs.BoundsValues.{Interval, interval_again, interval_found}
 use Rattle.tm_onig_parse.proofs.Marks.{mark_again, mark_found, question_same}

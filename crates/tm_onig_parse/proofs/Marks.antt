@@ -7,7 +7,7 @@ use Rattle.tm_onig_parse.specs.declared.quantifiers.Manner.{Manner}
 use Rattle.tm_onig_parse.specs.declared.quantifiers.Manner.TheVariants.{Greedy, Possessive}
 use Rattle.tm_onig_parse.specs.Intervals.{Bounds, Exactly, Between}
 use Rattle.tm_onig_parse.specs.Things.{Braces, Mark, Bare, Question, Plus, mark_text, EndsMark, with_question, marked}
-use Rattle.tm_onig_parse.specs.Reading.{Sym, Repeats, Found, times_at, lazily_exact}
+use Rattle.tm_onig_parse.specs.inner.Reading.{Sym, Repeats, Found, times_at, lazily_exact}
 use Rattle.tm_onig_atom.proofs.Texts.{chosen}
 use Rattle.tm_onig_parse.proofs.BoundsValues.{is_exact}
 

@@ -8,9 +8,9 @@ use Rattle.std.proofs.lemmas.Bool.{cases_Bool, eqb-true, eq-eqb, and_parts}
 use Rattle.std.proofs.lemmas.Bool.Decides.{nat_tests}
 use Rattle.std.proofs.lemmas.Option.{cond_some}
 use Rattle.tm_onig_atom.specs.Escapes.{begins}
-use Rattle.tm_onig_atom.specs.Reading.{rest_of}
+use Rattle.tm_onig_atom.specs.inner.Reading.{rest_of}
 use Rattle.tm_onig_parse.specs.Names.{is_name_char, starts_name, IsName, begins_digit}
-use Rattle.tm_onig_parse.specs.Reading.{limited, with_digit, number_at, name_at, name_to}
+use Rattle.tm_onig_parse.specs.inner.Reading.{limited, with_digit, number_at, name_at, name_to}
 use Rattle.tm_onig_parse.proofs.BoundsValues.{digit_below, longer, longer-limited}
 
 -- the characters of a name up to one that is none

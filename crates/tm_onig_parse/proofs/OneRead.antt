@@ -4,7 +4,7 @@ use Rattle.tm_onig_atom.specs.declared.options.Options.{Options}
 use Rattle.tm_onig_parse.specs.Names.{Names}
 use Rattle.tm_onig_parse.specs.Things.{inside, opener_of, name_of, least_of, greatest_of, manner_of, Tok, Single, Opens, Setting, Closing, Bar, Times, Skipped, text_of, IsTok}
 use Rattle.tm_onig_parse.specs.Meaning.{atom_built}
-use Rattle.tm_onig_parse.specs.Reading.{Sym, Means, Open, Switches, Close, Or, Repeats, Skips, Found}
+use Rattle.tm_onig_parse.specs.inner.Reading.{Sym, Means, Open, Switches, Close, Or, Repeats, Skips, Found}
 
 -- what is left of a thing once it is read
 abbrev pub sym_of : Tok → Options → Sym

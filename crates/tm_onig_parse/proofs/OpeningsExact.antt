@@ -9,7 +9,7 @@ use Rattle.tm_onig_atom.specs.Escapes.{begins}
 use Rattle.tm_onig_parse.specs.Names.{Names, is_name_char, IsName}
 use Rattle.tm_onig_parse.specs.Options.{letter, switched}
 use Rattle.tm_onig_parse.specs.Things.{Opening, Capture, Named, Group, Keep, Look, opening_text, IsOpening, Opens, Setting, Skipped, Comment}
-use Rattle.tm_onig_parse.specs.Reading.{Sym, Open, Switches, Skips, Found, comment_at, name_to, named_at, behind_at, switch_at, groups_at, open_at}
+use Rattle.tm_onig_parse.specs.inner.Reading.{Sym, Open, Switches, Skips, Found, comment_at, name_to, named_at, behind_at, switch_at, groups_at, open_at}
 use Rattle.tm_onig_atom.proofs.Texts.{chosen, bind_ok, differs, or_parts}
 use Rattle.tm_onig_parse.proofs.OneRead.{sym_of, same_pair, Reads, reads_by, reads_as}
 use Rattle.tm_onig_parse.proofs.NamesExact.{name_to_again, name_to_found}

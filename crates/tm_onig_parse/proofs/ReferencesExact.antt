@@ -8,10 +8,10 @@ use Rattle.std.proofs.lemmas.Bool.{eqb-true, and_parts}
 use Rattle.std.proofs.lemmas.Bool.Decides.{nat_tests}
 use Rattle.tm_onig_atom.specs.declared.options.Options.{Options}
 use Rattle.tm_onig_atom.specs.Escapes.{begins}
-use Rattle.tm_onig_atom.specs.Reading.{rest_of}
+use Rattle.tm_onig_atom.specs.inner.Reading.{rest_of}
 use Rattle.tm_onig_parse.specs.Names.{Names, starts_name, begins_digit, Reference, Digits, Numbered, Called, reference_text, IsReference, Number, Name, key_of}
 use Rattle.tm_onig_parse.specs.Things.{begins_reference}
-use Rattle.tm_onig_parse.specs.Reading.{Sym, limited, name_to, refers, numbered, digits_ref, number_ref, name_ref, keyed_at, reference_at, escape_at}
+use Rattle.tm_onig_parse.specs.inner.Reading.{Sym, limited, name_to, refers, numbered, digits_ref, number_ref, name_ref, keyed_at, reference_at, escape_at}
 use Rattle.tm_onig_atom.proofs.Texts.{chosen, bind_ok}
 use Rattle.tm_onig_parse.proofs.BoundsValues.{below, limited_found}
 use Rattle.tm_onig_parse.proofs.NamesExact.{name_to_again, name_to_found, number_again, Digits as Front, digits_of, number_found, some_digits}

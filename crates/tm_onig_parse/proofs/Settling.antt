@@ -5,9 +5,9 @@ use Rattle.tm_onig_parse.specs.declared.groups.Frame.{Frame}
 use Rattle.tm_onig_parse.specs.declared.ParseFault.{ParseFault}
 use Rattle.tm_onig_parse.specs.declared.ParseFault.TheVariants.{Unreadable, OutOfMemory}
 use Rattle.tm_onig_parse.specs.Meaning.{Built, enclosed}
-use Rattle.tm_onig_atom.specs.Reading.{◌>>=◌}
-use Rattle.tm_onig_parse.specs.Reading.{Close, Level, State, added, level_built, within, is_set, settled, close_in, step}
-use Rattle.tm_onig_parse.specs.Views.{Fails, Steps, levels_of}
+use Rattle.tm_onig_atom.specs.inner.Reading.{◌>>=◌}
+use Rattle.tm_onig_parse.specs.inner.Reading.{Close, Level, State, added, level_built, within, is_set, settled, close_in, step}
+use Rattle.tm_onig_parse.specs.inner.Views.{Fails, Steps, levels_of}
 use Rattle.tm_onig_parse.proofs.Back.{within_ok, same_state}
 
 -- What a group that options made ends as.

@@ -3,8 +3,8 @@ use Rattle.std.proofs.Common.{◌≡◌, List, [], ◌∷◌, ◌++◌, map, len
 use Rattle.std.proofs.lemmas.List.{map-append}
 use Rattle.tm_onig_parse.specs.Meaning.{Built}
 use Rattle.tm_onig_parse.specs.declared.part.Part.{Part}
-use Rattle.tm_onig_parse.specs.Reading.{State, Level, change_last}
-use Rattle.tm_onig_parse.specs.Views.{Fails, Steps, built_of}
+use Rattle.tm_onig_parse.specs.inner.Reading.{State, Level, change_last}
+use Rattle.tm_onig_parse.specs.inner.Views.{Fails, Steps, built_of}
 use Rattle.tm_onig_parse.specs.declared.ParseFault.{ParseFault}
 use Rattle.tm_onig_parse.specs.declared.ParseFault.TheVariants.{Unreadable, OutOfMemory}
 use Rattle.tm_onig_parse.proofs.Structure.{change_last-snoc}

@@ -7,7 +7,7 @@ use Rattle.tm_onig_parse.specs.declared.quantifiers.Manner.{Manner}
 use Rattle.tm_onig_parse.specs.Things.{Opening, Capture, Named, Group, Keep, Look, inside, opener_of, name_of, count, least_of, greatest_of, manner_of, Setting, Closing, Bar, Times, Skipped, Toks}
 use Rattle.tm_onig_parse.specs.Grammar.{Body, Simply, Under, Alts, First, Also, Row, Nothing, Then, Noted, Piece, Alone, Inside, Repeated, Behind, end_options, written, written_alts, written_row, written_piece, groups, groups_alts, groups_row, groups_piece}
 use Rattle.tm_onig_parse.specs.Meaning.{Built, highest, row_built, alts_built, enclosed, quantified, bodies, rows, parts, piece_built}
-use Rattle.tm_onig_parse.specs.Reading.{Open, Close, Repeats, Level, State, added, is_set, settled, change_last, step}
+use Rattle.tm_onig_parse.specs.inner.Reading.{Open, Close, Repeats, Level, State, added, is_set, settled, change_last, step}
 use Rattle.tm_onig_parse.proofs.OneRead.{sym_of}
 use Rattle.tm_onig_parse.proofs.Heights.{row_low, alts_low, front_low, back_low, last_low, enclosed_low, quantified_low}
 

@@ -1,10 +1,10 @@
 -- One turn of the loop over the text.
 use Rattle.std.proofs.Common.{◌≡◌, ℕ, zero, suc, ◌<◌, ◌≤◌, List, [], ◌∷◌, length, Option, Some, None, refl, sym, ◌∙◌, arith}
 use Rattle.tm_onig_class.specs.Tree.{Tree}
-use Rattle.tm_onig_atom.specs.Reading.{◌>>=◌}
+use Rattle.tm_onig_atom.specs.inner.Reading.{◌>>=◌}
 use Rattle.tm_onig_parse.specs.Names.{Names}
-use Rattle.tm_onig_parse.specs.Reading.{Sym, State, token_at, step, finish, read, onward, Outline, outline_step, names_read, names_onward}
-use Rattle.tm_onig_parse.specs.Views.{Fails}
+use Rattle.tm_onig_parse.specs.inner.Reading.{Sym, State, token_at, step, finish, read, onward, Outline, outline_step, names_read, names_onward}
+use Rattle.tm_onig_parse.specs.inner.Views.{Fails}
 use Rattle.tm_onig_parse.specs.declared.ParseFault.{ParseFault}
 use Rattle.tm_onig_parse.specs.declared.ParseFault.TheVariants.{Unreadable, OutOfMemory}
 use Rattle.tm_onig_parse.proofs.Lexing.{token_shorter}

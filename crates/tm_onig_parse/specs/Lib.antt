@@ -5,5 +5,5 @@ pub mod Options
 pub mod Things
 pub mod Grammar
 pub mod Meaning
-pub mod Reading
-pub mod Views
+pub mod Parsed
+pub mod inner

@@ -1,7 +1,7 @@
 -- Letters that set options.
 use Rattle.std.specs.Prelude.{ℕ, ◌==◌, ◌&&◌, Bool, false, List, [], ◌∷◌, Option, Some, None, if◌then◌else◌}
 use Rattle.tm_onig_atom.specs.declared.options.Options.{Options}
-use Rattle.tm_onig_atom.specs.Reading.{◌>>=◌}
+use Rattle.tm_onig_atom.specs.inner.Reading.{◌>>=◌}
 
 -- A letter sets an option, or clears it behind a `-`, which may stand once.
 unfoldable pub letter : Bool → Options → ℕ → Option (Bool × Options)

@@ -1,7 +1,7 @@
 //! A group that is open.
 ghost use Rattle.std.specs.Prelude.{◌≡◌, Some};
-ghost use Rattle.tm_onig_parse.specs.Reading.{fresh, level_built, next_row};
-ghost use Rattle.tm_onig_parse.specs.Views.{Gives, Steps, built_of, level_of_frame};
+ghost use Rattle.tm_onig_parse.specs.inner.Reading.{fresh, level_built, next_row};
+ghost use Rattle.tm_onig_parse.specs.inner.Views.{Gives, Steps, built_of, level_of_frame};
 
 use crate::ParseFault;
 use crate::part::Part;

@@ -1,7 +1,7 @@
 //! Bounds between braces. They are told from a `{` that is a character, and only then read.
 ghost use Rattle.std.specs.Prelude.{◌≡◌, ◌<◌, ◌+◌, ◌*◌, option_map, Some};
-ghost use Rattle.tm_onig_atom.specs.Reading.{rest_of};
-ghost use Rattle.tm_onig_parse.specs.Reading.{digits_at, ends_bounds, after_digits, bounds_at, limited, with_digit, number_at, ordered, second_at, first_at, interval_at};
+ghost use Rattle.tm_onig_atom.specs.inner.Reading.{rest_of};
+ghost use Rattle.tm_onig_parse.specs.inner.Reading.{digits_at, ends_bounds, after_digits, bounds_at, limited, with_digit, number_at, ordered, second_at, first_at, interval_at};
 
 use tm_onig_atom::slices::tail;
 
@@ -9,7 +9,7 @@ use tm_onig_atom::slices::tail;
 const MOST_TIMES: u32 = 100_000;
 
 /// What stands behind the digits, and whether there are some, or were before.
-#[tactic(auto, unfolding(crate::specs::Reading::digits_at))]
+#[tactic(auto, unfolding(crate::specs::inner::Reading::digits_at))]
 fn digits(some: bool, text: &[char]) -> (bool, &[char])
     ensures { (result.0, result.1.now) ≡ digits_at some text.now }
 {
@@ -52,7 +52,7 @@ fn after(some: bool, text: &[char]) -> bool
 }
 
 /// Whether bounds stand at the front of what follows a `{`.
-#[tactic(auto, unfolding(crate::specs::Reading::bounds_at))]
+#[tactic(auto, unfolding(crate::specs::inner::Reading::bounds_at))]
 pub fn bounds(text: &[char]) -> bool
     ensures { result ≡ bounds_at text.now }
 {
@@ -88,7 +88,7 @@ fn longer(number: Option<u32>, digit: u32) -> Option<u32>
 }
 
 /// The number at the front, if it is not above the limit, and what stands behind it.
-#[tactic(auto, unfolding(crate::specs::Reading::number_at))]
+#[tactic(auto, unfolding(crate::specs::inner::Reading::number_at))]
 pub fn number(text: &[char]) -> (Option<u32>, &[char])
     ensures { (result.0, result.1.now) ≡ number_at (Some 0) text.now }
 {

@@ -12,8 +12,8 @@ ghost use Rattle.tm_onig_class.specs.Limits.{AreLimitsInOrder};
 ghost use Rattle.tm_onig_class.specs.Tree.{Tree, tree_of};
 ghost use Rattle.tm_onig_parse.specs.Grammar.{Body};
 ghost use Rattle.tm_onig_parse.specs.Meaning.{Spells, meaning};
-ghost use Rattle.tm_onig_parse.specs.Reading.{parsed};
-ghost use Rattle.tm_onig_parse.specs.Views.{FaultOf, Gives};
+ghost use Rattle.tm_onig_parse.specs.Parsed.{parsed};
+ghost use Rattle.tm_onig_parse.specs.inner.Views.{FaultOf, Gives};
 
 mod groups;
 mod intervals;

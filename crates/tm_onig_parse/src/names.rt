@@ -2,8 +2,8 @@
 ghost use Rattle.std.specs.Prelude.{◌≡◌, Some};
 ghost use Rattle.tm_onig_atom.specs.Escapes.{begins};
 ghost use Rattle.tm_onig_parse.specs.Names.{is_name_char, starts_name};
-ghost use Rattle.tm_onig_parse.specs.Reading.{name_at, name_to};
-ghost use Rattle.tm_onig_parse.specs.Views.{Gives};
+ghost use Rattle.tm_onig_parse.specs.inner.Reading.{name_at, name_to};
+ghost use Rattle.tm_onig_parse.specs.inner.Views.{Gives};
 
 use crate::ParseFault;
 use std::alloc::Global;
@@ -35,7 +35,7 @@ fn starts_name(name: &[char]) -> bool
 }
 
 /// The characters of a name at the front, and what stands behind them.
-#[tactic(auto, unfolding(crate::specs::Reading::name_at))]
+#[tactic(auto, unfolding(crate::specs::inner::Reading::name_at))]
 fn name_chars(alloc: Global, text: &[char]) -> Result<(Vec<char>, &[char]), ParseFault>
     ensures { Gives (λ x. (x.0.items, x.1.now)) result (Some (name_at text.now)) }
 {

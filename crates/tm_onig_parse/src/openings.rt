@@ -1,8 +1,8 @@
 //! What follows a `(`: how a group is opened, options, or a comment.
 ghost use Rattle.std.specs.Prelude.{◌≡◌, true, Some, None};
-ghost use Rattle.tm_onig_parse.specs.Reading.{Open, comment_at, named_at, behind_at, switch_at, groups_at, open_at};
+ghost use Rattle.tm_onig_parse.specs.inner.Reading.{Open, comment_at, named_at, behind_at, switch_at, groups_at, open_at};
 ghost use Rattle.tm_onig_parse.specs.declared.groups.Opener.TheVariants.{Looks};
-ghost use Rattle.tm_onig_parse.specs.Views.{Gives, sym_of_token};
+ghost use Rattle.tm_onig_parse.specs.inner.Views.{Gives, sym_of_token};
 
 use crate::ParseFault;
 use crate::groups::Opener;
@@ -13,7 +13,7 @@ use std::alloc::Global;
 use tm_onig_atom::options::Options;
 
 /// What follows `(?#`: up to the next `)` it means nothing.
-#[tactic(auto, unfolding(crate::specs::Reading::comment_at))]
+#[tactic(auto, unfolding(crate::specs::inner::Reading::comment_at))]
 fn comment(text: &[char]) -> Result<(Token, &[char]), ParseFault>
     ensures { Gives (λ x. (sym_of_token x.0, x.1.now)) result (comment_at text.now) }
 {
@@ -67,7 +67,7 @@ fn named(
 }
 
 /// What follows `(?<`.
-#[tactic(auto, unfolding(crate::specs::Reading::behind_at))]
+#[tactic(auto, unfolding(crate::specs::inner::Reading::behind_at))]
 fn behind(alloc: Global, options: Options, text: &[char]) -> Result<(Token, &[char]), ParseFault>
     ensures { Gives (λ x. (sym_of_token x.0, x.1.now)) result (behind_at options text.now) }
 {
@@ -80,7 +80,7 @@ fn behind(alloc: Global, options: Options, text: &[char]) -> Result<(Token, &[ch
 }
 
 /// Letters of options up to a `:`, which opens a group under them, or a `)`.
-#[tactic(auto, unfolding(crate::specs::Reading::switch_at))]
+#[tactic(auto, unfolding(crate::specs::inner::Reading::switch_at))]
 fn switch(options: Options, text: &[char]) -> Result<(Token, &[char]), ParseFault>
     ensures { Gives (λ x. (sym_of_token x.0, x.1.now)) result (switch_at true options text.now) }
 {
@@ -105,7 +105,7 @@ fn switch(options: Options, text: &[char]) -> Result<(Token, &[char]), ParseFaul
 }
 
 /// What follows `(?`.
-#[tactic(auto, unfolding(crate::specs::Reading::groups_at))]
+#[tactic(auto, unfolding(crate::specs::inner::Reading::groups_at))]
 fn groups(alloc: Global, options: Options, text: &[char]) -> Result<(Token, &[char]), ParseFault>
     ensures { Gives (λ x. (sym_of_token x.0, x.1.now)) result (groups_at options text.now) }
 {
@@ -122,7 +122,7 @@ fn groups(alloc: Global, options: Options, text: &[char]) -> Result<(Token, &[ch
 }
 
 /// What follows `(`.
-#[tactic(auto, unfolding(crate::specs::Reading::open_at))]
+#[tactic(auto, unfolding(crate::specs::inner::Reading::open_at))]
 pub fn open(alloc: Global, options: Options, text: &[char]) -> Result<(Token, &[char]), ParseFault>
     ensures { Gives (λ x. (sym_of_token x.0, x.1.now)) result (open_at options text.now) }
 {

@@ -4,8 +4,8 @@
 //! of groups. So the groups are read first, under the options that hold. What stands in them is read too,
 //! to find where it ends, and let go.
 ghost use Rattle.std.specs.Prelude.{◌≡◌, map, None};
-ghost use Rattle.tm_onig_parse.specs.Reading.{Open, Close, outline_start, outline_step, names_onward};
-ghost use Rattle.tm_onig_parse.specs.Views.{Gives, Steps, name_of_chars, names_known, outline_of, sym_of_token};
+ghost use Rattle.tm_onig_parse.specs.inner.Reading.{Open, Close, outline_start, outline_step, names_onward};
+ghost use Rattle.tm_onig_parse.specs.inner.Views.{Gives, Steps, name_of_chars, names_known, outline_of, sym_of_token};
 
 use crate::ParseFault;
 use crate::groups::Opener;

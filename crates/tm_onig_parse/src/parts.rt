@@ -2,8 +2,8 @@
 ghost use Rattle.std.specs.Prelude.{◌≡◌, ◌≤◌, ◌+◌, if◌then◌else◌, Some, ◌++◌, ◌∷◌, [], map};
 ghost use Rattle.tm_onig_class.specs.Tree.{tree_of};
 ghost use Rattle.tm_onig_parse.specs.Meaning.{nested, leaf, row_built, alts_built, enclosed, repeated, highest, tree_in};
-ghost use Rattle.tm_onig_parse.specs.Reading.{within};
-ghost use Rattle.tm_onig_parse.specs.Views.{Gives, Steps, built_of};
+ghost use Rattle.tm_onig_parse.specs.inner.Reading.{within};
+ghost use Rattle.tm_onig_parse.specs.inner.Views.{Gives, Steps, built_of};
 
 use crate::ParseFault;
 use crate::groups::Opener;

@@ -1,8 +1,8 @@
 //! Quantifiers, which say how often a part matches.
 ghost use Rattle.std.specs.Prelude.{◌≡◌, Some};
 ghost use Rattle.tm_onig_parse.specs.Meaning.{is_greedy, kept, around};
-ghost use Rattle.tm_onig_parse.specs.Reading.{within, more_times};
-ghost use Rattle.tm_onig_parse.specs.Views.{Gives, built_of};
+ghost use Rattle.tm_onig_parse.specs.inner.Reading.{within, more_times};
+ghost use Rattle.tm_onig_parse.specs.inner.Views.{Gives, built_of};
 
 use crate::ParseFault;
 use crate::part::Part;

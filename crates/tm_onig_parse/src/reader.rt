@@ -2,9 +2,10 @@
 ghost use Rattle.std.specs.Prelude.{OnOk, ◌≡◌, ◌≤◌, ◌+◌, ◌∷◌, Some, map};
 ghost use Rattle.tm_onig_class.specs.Tree.{tree_of};
 ghost use Rattle.tm_onig_parse.specs.Things.{count};
-ghost use Rattle.tm_onig_parse.specs.Reading.{Close, step, change_last, more_times, is_set, settled, close_in, entered, open_in, finish_in, finish, start, onward, parsed};
+ghost use Rattle.tm_onig_parse.specs.inner.Reading.{Close, step, change_last, more_times, is_set, settled, close_in, entered, open_in, finish_in, finish, start, onward};
+ghost use Rattle.tm_onig_parse.specs.Parsed.{parsed};
 ghost use Rattle.tm_onig_parse.specs.declared.groups.Opener.TheVariants.{Sets as BySetting};
-ghost use Rattle.tm_onig_parse.specs.Views.{Gives, Steps, built_of, level_of_frame, names_known, state_of_reader, sym_of_token};
+ghost use Rattle.tm_onig_parse.specs.inner.Views.{Gives, Steps, built_of, level_of_frame, names_known, state_of_reader, sym_of_token};
 
 use crate::ParseFault;
 use crate::groups::{Frame, Opener, end_row, fresh, whole};
@@ -159,7 +160,7 @@ fn close(alloc: Global, reader: &mut Reader) -> Result<(), ParseFault>
 }
 
 /// Goes on by one thing.
-#[tactic(auto, unfolding(crate::specs::Reading::step))]
+#[tactic(auto, unfolding(crate::specs::inner::Reading::step))]
 fn take(alloc: Global, reader: &mut Reader, token: Token) -> Result<(), ParseFault>
     ensures { Steps result (state_of_reader reader.new) (step (sym_of_token token) (state_of_reader reader.old)) }
 {

@@ -2,9 +2,9 @@
 ghost use Rattle.std.specs.Prelude.{◌≡◌, ◌∷◌, [], map, Some};
 ghost use Rattle.tm_onig_parse.specs.Meaning.{leaf};
 ghost use Rattle.tm_onig_parse.specs.Names.{Number, Name, begins_digit, called_from, is_called, meant_in};
-ghost use Rattle.tm_onig_parse.specs.Reading.{Means, numbered, digits_ref, number_ref, name_ref, keyed_at, reference_at};
+ghost use Rattle.tm_onig_parse.specs.inner.Reading.{Means, numbered, digits_ref, number_ref, name_ref, keyed_at, reference_at};
 ghost use Rattle.tm_onig_parse.specs.Things.{begins_reference, back_tree};
-ghost use Rattle.tm_onig_parse.specs.Views.{Gives, sym_of_token, names_known, name_of_chars};
+ghost use Rattle.tm_onig_parse.specs.inner.Views.{Gives, sym_of_token, names_known, name_of_chars};
 
 use crate::ParseFault;
 use crate::intervals::number;
@@ -193,7 +193,7 @@ fn begins_digit(text: &[char]) -> bool
 }
 
 /// What follows `\\k`.
-#[tactic(auto, unfolding(crate::specs::Reading::keyed_at))]
+#[tactic(auto, unfolding(crate::specs::inner::Reading::keyed_at))]
 fn keyed<'a>(
     alloc: Global,
     groups: &GroupNames,

@@ -1,13 +1,13 @@
 //! The smallest things that are written, one at a time.
 ghost use Rattle.std.specs.Prelude.{◌≡◌, ◌∷◌, option_map, Some};
 ghost use Rattle.tm_onig_class.specs.Tree.{tree_of};
-ghost use Rattle.tm_onig_atom.specs.ClassReading.{class_at};
-ghost use Rattle.tm_onig_atom.specs.Reading as Atom;
+ghost use Rattle.tm_onig_atom.specs.inner.ClassReading.{class_at};
+ghost use Rattle.tm_onig_atom.specs.inner.Reading as Atom;
 ghost use Rattle.tm_onig_parse.specs.Characters.{single_tree, place_letter};
 ghost use Rattle.tm_onig_parse.specs.Things.{sign_bounds};
 ghost use Rattle.tm_onig_parse.specs.Meaning.{leaf};
-ghost use Rattle.tm_onig_parse.specs.Reading.{token_at, times_at, lazily_exact, interval_at, braces_at, means_escape, place_or, escape_at, line_end, bounds_or, sign_or, means_class};
-ghost use Rattle.tm_onig_parse.specs.Views.{Gives, sym_of_token, built_of, names_known};
+ghost use Rattle.tm_onig_parse.specs.inner.Reading.{token_at, times_at, lazily_exact, interval_at, braces_at, means_escape, place_or, escape_at, line_end, bounds_or, sign_or, means_class};
+ghost use Rattle.tm_onig_parse.specs.inner.Views.{Gives, sym_of_token, built_of, names_known};
 
 use crate::groups::Opener;
 use crate::intervals::{bounds, interval};
@@ -82,7 +82,7 @@ fn sign(c: char) -> Option<(u32, Option<u32>)>
 
 /// What follows a sign or a brace with these bounds: a `?` sets the manner, and so does a `+` where it is
 /// a mark.
-#[tactic(auto, unfolding(crate::specs::Reading::times_at))]
+#[tactic(auto, unfolding(crate::specs::inner::Reading::times_at))]
 fn times(
     least: u32,
     greatest: Option<u32>,
@@ -185,7 +185,7 @@ fn place_or<'a>(
 }
 
 /// What follows a backslash.
-#[tactic(auto, unfolding(crate::specs::Reading::escape_at))]
+#[tactic(auto, unfolding(crate::specs::inner::Reading::escape_at))]
 fn behind_slash<'a>(
     alloc: Global,
     sets: &mut Sets,
@@ -222,7 +222,7 @@ fn brackets<'a>(
 }
 
 /// The end of the line.
-#[tactic(auto, unfolding(crate::specs::Reading::line_end))]
+#[tactic(auto, unfolding(crate::specs::inner::Reading::line_end))]
 fn line_end(text: &[char]) -> &[char]
     ensures { result.now ≡ line_end text.now }
 {
@@ -268,7 +268,7 @@ fn sign_or(options: Options, c: char, text: &[char]) -> Result<(Token, &[char]),
 }
 
 /// The first thing of the text, and what follows it, where the pattern has these groups.
-#[tactic(auto, unfolding(crate::specs::Reading::token_at))]
+#[tactic(auto, unfolding(crate::specs::inner::Reading::token_at))]
 pub fn next_token<'a>(
     alloc: Global,
     sets: &mut Sets,

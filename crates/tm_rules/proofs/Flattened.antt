@@ -3,7 +3,7 @@ use Rattle.std.proofs.Common.{◌≡◌, ℕ, zero, suc, Bool, true, false, List
 use Rattle.std.proofs.lemmas.Option.{slice_get_read}
 use Rattle.tm_rules.specs.Candidates.{is_among, unopened, contributed, flattened, flattened_candidates, included_candidates, start_unless, listed}
 use Rattle.tm_rules.specs.Readers.{is_only, patterns_of}
-use Rattle.tm_rules.specs.Lists.{AreLists}
+use Rattle.tm_rules.specs.inner.Lists.{AreLists}
 use Rattle.tm_rules.specs.declared.candidate.Candidate.{Candidate}
 use Rattle.tm_rules.specs.declared.candidate.Candidate.TheVariants.{Start}
 use Rattle.tm_defs.specs.declared.rules.Rule.{Rule}

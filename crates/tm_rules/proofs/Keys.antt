@@ -10,7 +10,7 @@ use Rattle.std.specs.declared.cmp.Ordering.{Ordering}
 use Rattle.std.specs.declared.cmp.Ordering.TheVariants.{Less, Equal, Greater}
 use Rattle.std.proofs.lemmas.Map.Text.{is_eq-slice_cmp}
 use Rattle.tm_rules.specs.Includes.{named}
-use Rattle.tm_rules.specs.Keyed.{keyed}
+use Rattle.tm_rules.specs.inner.Keyed.{keyed}
 
 abbrev Pairs : Type 0
 Pairs = List (Vec ℕ Global × ℕ)

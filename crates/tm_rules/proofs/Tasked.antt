@@ -6,7 +6,7 @@ use Rattle.std.proofs.Math.ListN.{length-set}
 use Rattle.std.proofs.lemmas.Bool.Decides.{eqb_tells}
 use Rattle.tm_rules.specs.Candidates.{is_among, flattened}
 use Rattle.tm_rules.specs.Readers.{is_only, patterns_of}
-use Rattle.tm_rules.specs.Tasks.{opened_by, tasks_left, stacked, AreMarked}
+use Rattle.tm_rules.specs.inner.Tasks.{opened_by, tasks_left, stacked, AreMarked}
 use Rattle.tm_rules.specs.declared.candidate.Candidate.{Candidate}
 use Rattle.tm_rules.specs.declared.flow.Task.{Task}
 use Rattle.tm_rules.specs.declared.flow.Task.TheVariants.{Visit, Close}

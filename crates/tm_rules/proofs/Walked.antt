@@ -7,7 +7,7 @@ use Rattle.tm_rules.specs.Includes.{Entries, entries}
 use Rattle.tm_grammar.specs.File.{GrammarTree}
 use Rattle.tm_rules.specs.Rules.{firsts, inner, own_rule, rule_at, rules_inside, rules_in_names, inside_root, grammar_rules, rules_from}
 use Rattle.tm_rules.specs.Tree.{tree_of, names_of}
-use Rattle.tm_rules.specs.Walk.{rules_in_parts}
+use Rattle.tm_rules.specs.inner.Walk.{rules_in_parts}
 use Rattle.tm_rules.specs.declared.loaded.Loaded.{Loaded}
 use Rattle.tm_rules.specs.declared.sizes.FirstNumbers.{FirstNumbers}
 use Rattle.tm_defs.specs.declared.rules.Rule.{Rule}

@@ -1,12 +1,8 @@
 pub mod Tree
 pub mod Sizes
-pub mod Keyed
 pub mod Includes
 pub mod Readers
 pub mod Rules
 pub mod Candidates
-pub mod Walk
-pub mod Tasks
-pub mod Flows
-pub mod Lists
 pub mod Laws
+pub mod inner

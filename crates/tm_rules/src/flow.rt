@@ -17,8 +17,8 @@
 ghost use Rattle.std.specs.Prelude.{◌≡◌, [], ◌++◌, ◌∷◌, true, false, map, get_or, slice_get, slice_set, IfOk, OnOk, MatchOption, Some, None, flat_map};
 ghost use Rattle.tm_rules.specs.Candidates.{flattened};
 ghost use Rattle.tm_rules.specs.Readers.{is_only, patterns_of};
-ghost use Rattle.tm_rules.specs.Flows.{tasks_of, IsFlow};
-ghost use Rattle.tm_rules.specs.Tasks.{opened_by, tasks_left, stacked, found_first, AreMarked};
+ghost use Rattle.tm_rules.specs.inner.Flows.{tasks_of, IsFlow};
+ghost use Rattle.tm_rules.specs.inner.Tasks.{opened_by, tasks_left, stacked, found_first, AreMarked};
 ghost use Rattle.tm_rules.specs.declared.flow.Task.TheVariants.{Visit};
 
 use std::alloc::Global;

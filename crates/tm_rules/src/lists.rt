@@ -4,11 +4,11 @@
 //! Where together they pass `CANDIDATE_LIMIT`, or the flattening takes more than `STEP_LIMIT` steps,
 //! the answer is want of memory.
 ghost use Rattle.std.specs.Prelude.{◌≡◌, ◌≤◌, ◌^◌, ◌++◌, [], length, Some, IfOk, OnOk, flat_map, slice_get};
-ghost use Rattle.tm_rules.specs.Lists.{AreLists};
+ghost use Rattle.tm_rules.specs.inner.Lists.{AreLists};
 ghost use Rattle.tm_rules.specs.Sizes.{rule_limit};
 ghost use Rattle.tm_rules.specs.Candidates.{flattened, with_end, listed};
-ghost use Rattle.tm_rules.specs.Flows.{tasks_of, IsFlow};
-ghost use Rattle.tm_rules.specs.Tasks.{tasks_left};
+ghost use Rattle.tm_rules.specs.inner.Flows.{tasks_of, IsFlow};
+ghost use Rattle.tm_rules.specs.inner.Tasks.{tasks_left};
 
 use crate::candidate::Candidate;
 use crate::flow::Flow;

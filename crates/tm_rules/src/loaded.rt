@@ -3,7 +3,7 @@ ghost use Rattle.std.specs.Prelude.{◌≡◌, IfOk, OnOk};
 ghost use Rattle.std.specs.BTreeMap.{insert_entry};
 ghost use Rattle.std.specs.Cmp.Lexicographic.{slice_cmp};
 ghost use Rattle.std.specs.Ordering.{nat_cmp};
-ghost use Rattle.tm_rules.specs.Keyed.{keyed};
+ghost use Rattle.tm_rules.specs.inner.Keyed.{keyed};
 ghost use Rattle.tm_rules.specs.Includes.{entries, named};
 ghost use Rattle.tm_rules.specs.Tree.{names_of};
 
@@ -24,7 +24,7 @@ pub struct Repository {
 
 impl Model for Repository {
     ghost use Rattle.std.specs.Prelude.{ℕ, List};
-    ghost use Rattle.tm_rules.specs.Keyed.{keyed};
+    ghost use Rattle.tm_rules.specs.inner.Keyed.{keyed};
 
     ghost Value = { List (List ℕ × ℕ) };
 

@@ -25,7 +25,7 @@ pub struct Rules {
 
 impl Model for Rules {
     ghost use Rattle.std.specs.Prelude.{List};
-    ghost use Rattle.tm_rules.specs.Lists.{AreLists};
+    ghost use Rattle.tm_rules.specs.inner.Lists.{AreLists};
     ghost use Rattle.tm_defs.specs.declared.rules.Rule.{Rule};
 
     ghost Value = { List Rule };

@@ -6,7 +6,7 @@
 ghost use Rattle.std.specs.Prelude.{◌≡◌, ◌+◌, ◌++◌, ◌∷◌, [], map, IfOk, OnOk, if◌then◌else◌};
 ghost use Rattle.tm_rules.specs.Sizes.{has_patterns, inside_size};
 ghost use Rattle.tm_rules.specs.Rules.{own_rule, rule_at, rules_inside, rules_in_captures, rules_in_items, rules_in_names, grammar_rules, rules_from};
-ghost use Rattle.tm_rules.specs.Walk.{rules_in_parts};
+ghost use Rattle.tm_rules.specs.inner.Walk.{rules_in_parts};
 ghost use Rattle.tm_grammar.specs.declared.raw.RawRule.TheViews.{out-RawRule};
 ghost use Rattle.tm_rules.specs.Tree.{tree_of, captures_of_if, items_of_if, names_of};
 

@@ -1,7 +1,7 @@
 use Rattle.std.proofs.Common.{ℕ, List, Option, subst}
 use Rattle.tm_onig_class.specs.Tree.{Tree, tree_of}
-use Rattle.tm_onig_parse.specs.Reading.{parsed}
-use Rattle.tm_onig_parse.specs.Views.{Gives}
+use Rattle.tm_onig_parse.specs.Parsed.{parsed}
+use Rattle.tm_onig_parse.specs.inner.Views.{Gives}
 use Rattle.tm_onig_parse.proofs.Laws.{parsed_only, found_in, numbered_in, ordered_in}
 use Rattle.tm_onig_parse.proofs.parse.Goals as goal
 

@@ -1,7 +1,7 @@
 use Rattle.std.proofs.Common.{ap, sym, ◌∙◌}
 use Rattle.std.proofs.lemmas.List.{drop_all}
 use Rattle.std.proofs.lemmas.Result.{IfOk-weaker}
-use Rattle.tm_onig_atom.specs.Sides.{met_has, side_now, walked, met_after, side_after}
+use Rattle.tm_onig_atom.specs.inner.Sides.{met_has, side_now, walked, met_after, side_after}
 use Rattle.tm_onig_atom.proofs.SidesWalk.{walked_all, walk_starts, walk_on, walk_ends}
 use Rattle.tm_onig_atom.proofs.class_sets.members.Goals as goal
 

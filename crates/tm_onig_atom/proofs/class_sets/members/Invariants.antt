@@ -1,6 +1,6 @@
 use Rattle.std.proofs.Common.{◌≡◌, ℕ, true, false, drop}
 use Rattle.tm_onig_class.specs.Members.{IsChar}
-use Rattle.tm_onig_atom.specs.Sides.{met_has, side_now, walked}
+use Rattle.tm_onig_atom.specs.inner.Sides.{met_has, side_now, walked}
 use Rattle.tm_onig_atom.proofs.class_sets.members.Given as goal
 
 abbrev pub invariant-parts : goal.invariant-parts

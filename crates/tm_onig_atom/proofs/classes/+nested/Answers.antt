@@ -1,5 +1,5 @@
 use Rattle.std.proofs.Common.{sym, refl, ap, ◌∙◌, arith}
-use Rattle.tm_onig_atom.specs.ClassReading.{body_at, highest}
+use Rattle.tm_onig_atom.specs.inner.ClassReading.{body_at, highest}
 use Rattle.tm_onig_atom.specs.Classes.{class_has}
 use Rattle.tm_onig_atom.proofs.ClassTurns.{part_shorter, part_faults, part_goes, class_ends, body_none, body_faults, body_goes, height_fits, some_depth}
 use Rattle.tm_onig_atom.proofs.classes.+nested.Goals as goal

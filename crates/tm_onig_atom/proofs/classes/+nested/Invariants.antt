@@ -1,5 +1,5 @@
 use Rattle.std.proofs.Common.{◌≡◌, ◌+◌, ◌*◌, true, length}
-use Rattle.tm_onig_atom.specs.ClassReading.{body_at, parts_on, with_front}
+use Rattle.tm_onig_atom.specs.inner.ClassReading.{body_at, parts_on, with_front}
 use Rattle.tm_onig_atom.proofs.classes.+nested.Given as goal
 
 abbrev pub decreases-class_body : goal.decreases-class_body

@@ -1,5 +1,5 @@
 use Rattle.std.proofs.Common.{◌≡◌, max, drop}
-use Rattle.tm_onig_atom.specs.ClassReading.{highest}
+use Rattle.tm_onig_atom.specs.inner.ClassReading.{highest}
 use Rattle.tm_onig_atom.proofs.classes.highest.Given as goal
 
 abbrev pub invariant-loop-part : goal.invariant-loop-part

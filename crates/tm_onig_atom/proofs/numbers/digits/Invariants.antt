@@ -1,5 +1,5 @@
 use Rattle.std.proofs.Common.{◌≡◌, ◌<◌, ◌^◌, length}
-use Rattle.tm_onig_atom.specs.Reading.{digits_at}
+use Rattle.tm_onig_atom.specs.inner.Reading.{digits_at}
 use Rattle.tm_onig_atom.proofs.numbers.digits.Given as goal
 
 abbrev pub invariant-loop-rest : goal.invariant-loop-rest

@@ -1,5 +1,5 @@
 use Rattle.std.proofs.Common.{◌≡◌, take, drop}
-use Rattle.tm_onig_atom.specs.Reading.{before}
+use Rattle.tm_onig_atom.specs.inner.Reading.{before}
 use Rattle.tm_onig_atom.proofs.Texts.{in_front}
 use Rattle.tm_onig_atom.proofs.slices.before.Given as goal
 

@@ -1,5 +1,5 @@
 use Rattle.std.proofs.Common.{◌≡◌, length}
-use Rattle.tm_onig_parse.specs.Reading.{digits_at}
+use Rattle.tm_onig_parse.specs.inner.Reading.{digits_at}
 use Rattle.tm_onig_parse.proofs.intervals.digits.Given as goal
 
 abbrev pub invariant-loop-rest : goal.invariant-loop-rest

@@ -1,5 +1,5 @@
 use Rattle.std.proofs.Common.{◌≡◌, length, Some}
-use Rattle.tm_onig_parse.specs.Reading.{number_at}
+use Rattle.tm_onig_parse.specs.inner.Reading.{number_at}
 use Rattle.tm_onig_parse.proofs.intervals.number.Given as goal
 
 abbrev pub invariant-loop-rest : goal.invariant-loop-rest

@@ -1,5 +1,5 @@
 use Rattle.std.proofs.Common.{◌≡◌, ◌++◌, length, List, ℕ}
-use Rattle.tm_onig_parse.specs.Reading.{name_at}
+use Rattle.tm_onig_parse.specs.inner.Reading.{name_at}
 use Rattle.tm_onig_parse.proofs.names.name_chars.Given as goal
 
 abbrev pub invariant-loop-rest : goal.invariant-loop-rest

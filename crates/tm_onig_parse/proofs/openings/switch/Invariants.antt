@@ -1,5 +1,5 @@
 use Rattle.std.proofs.Common.{◌≡◌, true, length}
-use Rattle.tm_onig_parse.specs.Reading.{switch_at}
+use Rattle.tm_onig_parse.specs.inner.Reading.{switch_at}
 use Rattle.tm_onig_parse.proofs.openings.switch.Given as goal
 
 abbrev pub invariant-loop-rest : goal.invariant-loop-rest

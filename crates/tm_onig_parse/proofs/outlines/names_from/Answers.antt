@@ -1,6 +1,6 @@
 use Rattle.std.proofs.Common.{◌≡◌, ◌<◌, length, None, arith, sym, ◌∙◌}
 use Rattle.std.proofs.lemmas.Bool.Decides.{nat_tests}
-use Rattle.tm_onig_parse.specs.Views.{outline_of}
+use Rattle.tm_onig_parse.specs.inner.Views.{outline_of}
 use Rattle.tm_onig_parse.proofs.Lexing.{token_shorter}
 use Rattle.tm_onig_parse.proofs.Turns.{names_token_fails, names_step_fails, names_step_goes, names_at_end}
 use Rattle.tm_onig_parse.proofs.outlines.names_from.Goals as goal

@@ -1,6 +1,6 @@
 use Rattle.std.proofs.Common.{◌≡◌, length}
-use Rattle.tm_onig_parse.specs.Reading.{outline_start, names_onward}
-use Rattle.tm_onig_parse.specs.Views.{outline_of}
+use Rattle.tm_onig_parse.specs.inner.Reading.{outline_start, names_onward}
+use Rattle.tm_onig_parse.specs.inner.Views.{outline_of}
 use Rattle.tm_onig_parse.proofs.outlines.names_from.Given as goal
 
 abbrev pub invariant-loop-rest : goal.invariant-loop-rest

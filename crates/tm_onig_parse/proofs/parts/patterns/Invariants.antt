@@ -1,7 +1,7 @@
 use Rattle.std.proofs.Common.{◌≡◌, map}
 use Rattle.tm_onig_class.specs.Tree.{tree_of}
 use Rattle.tm_onig_parse.specs.Meaning.{tree_in}
-use Rattle.tm_onig_parse.specs.Views.{built_of}
+use Rattle.tm_onig_parse.specs.inner.Views.{built_of}
 use Rattle.tm_onig_parse.proofs.parts.patterns.Given as goal
 
 abbrev pub invariant-loop-part : goal.invariant-loop-part

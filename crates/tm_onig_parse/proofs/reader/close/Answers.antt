@@ -1,4 +1,4 @@
-use Rattle.tm_onig_parse.specs.Views.{state_of_reader}
+use Rattle.tm_onig_parse.specs.inner.Views.{state_of_reader}
 use Rattle.tm_onig_parse.proofs.Settling.{close_goes, close_fails}
 use Rattle.tm_onig_parse.proofs.reader.close.Goals as goal
 

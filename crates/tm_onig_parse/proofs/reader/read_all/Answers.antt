@@ -1,7 +1,7 @@
 use Rattle.std.proofs.Common.{◌≡◌, length, ◌<◌, Option, arith, sym, subst, ◌∙◌}
 use Rattle.std.proofs.lemmas.Bool.Decides.{nat_tests}
 use Rattle.tm_onig_class.specs.Tree.{Tree, tree_of}
-use Rattle.tm_onig_parse.specs.Views.{Gives, names_known, state_of_reader}
+use Rattle.tm_onig_parse.specs.inner.Views.{Gives, names_known, state_of_reader}
 use Rattle.tm_onig_parse.proofs.Lexing.{token_shorter}
 use Rattle.tm_onig_parse.proofs.Turns.{token_fails, step_fails, step_goes, at_end}
 use Rattle.tm_onig_parse.proofs.reader.read_all.Goals as goal

@@ -1,6 +1,6 @@
 use Rattle.std.proofs.Common.{◌≡◌, length}
-use Rattle.tm_onig_parse.specs.Reading.{start, onward}
-use Rattle.tm_onig_parse.specs.Views.{names_known, state_of_reader}
+use Rattle.tm_onig_parse.specs.inner.Reading.{start, onward}
+use Rattle.tm_onig_parse.specs.inner.Views.{names_known, state_of_reader}
 use Rattle.tm_onig_parse.proofs.reader.read_all.Given as goal
 
 abbrev pub invariant-loop-rest : goal.invariant-loop-rest

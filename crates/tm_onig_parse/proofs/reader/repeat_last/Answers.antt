@@ -1,7 +1,7 @@
 use Rattle.std.proofs.Common.{Option, List, map, sym, subst, arith}
 use Rattle.tm_onig_parse.specs.Meaning.{Built}
-use Rattle.tm_onig_parse.specs.Reading.{more_times}
-use Rattle.tm_onig_parse.specs.Views.{Steps, built_of}
+use Rattle.tm_onig_parse.specs.inner.Reading.{more_times}
+use Rattle.tm_onig_parse.specs.inner.Views.{Steps, built_of}
 use Rattle.tm_onig_parse.proofs.Steps.{no_last, last_changed, last_fails}
 use Rattle.tm_onig_parse.proofs.reader.repeat_last.Goals as goal
 

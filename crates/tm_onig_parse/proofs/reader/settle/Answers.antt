@@ -1,6 +1,6 @@
 use Rattle.std.proofs.Common.{◌≡◌, ◌<◌, length, sym, subst, ◌∙◌, arith}
 use Rattle.std.proofs.lemmas.Bool.Decides.{nat_tests}
-use Rattle.tm_onig_parse.specs.Views.{Fails, levels_of, level_of_frame, state_of_reader}
+use Rattle.tm_onig_parse.specs.inner.Views.{Fails, levels_of, level_of_frame, state_of_reader}
 use Rattle.tm_onig_parse.proofs.Settling.{left_one, left_fails, settled_other, settled_whole, length-levels}
 use Rattle.tm_onig_parse.proofs.reader.settle.Goals as goal
 

@@ -1,6 +1,6 @@
 use Rattle.std.proofs.Common.{◌≡◌, length}
-use Rattle.tm_onig_parse.specs.Reading.{settled}
-use Rattle.tm_onig_parse.specs.Views.{state_of_reader, levels_of}
+use Rattle.tm_onig_parse.specs.inner.Reading.{settled}
+use Rattle.tm_onig_parse.specs.inner.Views.{state_of_reader, levels_of}
 use Rattle.tm_onig_parse.proofs.reader.settle.Given as goal
 
 abbrev pub invariant-loop-reader : goal.invariant-loop-reader

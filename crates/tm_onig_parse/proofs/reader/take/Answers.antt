@@ -1,5 +1,5 @@
-use Rattle.tm_onig_parse.specs.Reading.{step}
-use Rattle.tm_onig_parse.specs.Views.{state_of_reader}
+use Rattle.tm_onig_parse.specs.inner.Reading.{step}
+use Rattle.tm_onig_parse.specs.inner.Views.{state_of_reader}
 use Rattle.tm_onig_parse.proofs.Steps.{steps_over, with_top, with_top_row}
 use Rattle.tm_onig_parse.proofs.reader.take.Goals as goal
 

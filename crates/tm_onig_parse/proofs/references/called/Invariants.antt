@@ -1,6 +1,6 @@
 use Rattle.std.proofs.Common.{◌≡◌, ◌+◌, ◌++◌, map, length}
 use Rattle.tm_onig_parse.specs.Names.{called_from}
-use Rattle.tm_onig_parse.specs.Views.{name_of_chars}
+use Rattle.tm_onig_parse.specs.inner.Views.{name_of_chars}
 use Rattle.tm_onig_parse.proofs.references.called.Given as goal
 
 abbrev pub invariant-loop-rest : goal.invariant-loop-rest

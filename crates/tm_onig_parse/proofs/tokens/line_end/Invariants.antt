@@ -1,5 +1,5 @@
 use Rattle.std.proofs.Common.{◌≡◌, length}
-use Rattle.tm_onig_parse.specs.Reading.{line_end}
+use Rattle.tm_onig_parse.specs.inner.Reading.{line_end}
 use Rattle.tm_onig_parse.proofs.tokens.line_end.Given as goal
 
 abbrev pub invariant-loop-rest : goal.invariant-loop-rest

@@ -1,6 +1,6 @@
 use Rattle.std.proofs.Common.{◌≡◌, ◌<◌, ◌∷◌, ◌++◌, true, false, List, map, length, ap, sym, ◌∙◌}
 use Rattle.tm_rules.specs.Candidates.{is_among}
-use Rattle.tm_rules.specs.Tasks.{opened_by, stacked}
+use Rattle.tm_rules.specs.inner.Tasks.{opened_by, stacked}
 use Rattle.tm_rules.specs.declared.flow.Task.{Task}
 use Rattle.tm_rules.specs.declared.flow.Task.TheVariants.{Visit, Close}
 use Rattle.tm_rules.proofs.Tasked.{stacked-push, opened-visits, left-open, left-opened, marked-opened}

@@ -1,5 +1,5 @@
 use Rattle.std.proofs.Common.{◌≡◌, ◌++◌, map, drop}
-use Rattle.tm_rules.specs.Tasks.{stacked}
+use Rattle.tm_rules.specs.inner.Tasks.{stacked}
 use Rattle.tm_rules.specs.declared.flow.Task.TheVariants.{Visit}
 use Rattle.tm_rules.proofs.flow.push_visits.Given as goal
 

@@ -1,5 +1,5 @@
 use Rattle.std.proofs.Common.{List, ◌++◌, ap}
-use Rattle.tm_rules.specs.Tasks.{opened_by, tasks_left, stacked}
+use Rattle.tm_rules.specs.inner.Tasks.{opened_by, tasks_left, stacked}
 use Rattle.tm_rules.specs.declared.candidate.Candidate.{Candidate}
 use Rattle.tm_rules.proofs.Flattened.{flattened-start}
 use Rattle.tm_rules.proofs.flow.visit.Goals as goal

@@ -1,4 +1,4 @@
-use Rattle.tm_rules.specs.Flows.{IsFlow}
+use Rattle.tm_rules.specs.inner.Flows.{IsFlow}
 use Rattle.tm_rules.proofs.lists.count_flattened.Given as goal
 
 abbrev pub invariant-loop-count : goal.invariant-loop-count

@@ -1,5 +1,5 @@
 use Rattle.std.proofs.Common.{◌≡◌, ◌≤◌, []}
-use Rattle.tm_rules.specs.Flows.{tasks_of, IsFlow}
+use Rattle.tm_rules.specs.inner.Flows.{tasks_of, IsFlow}
 use Rattle.tm_rules.proofs.lists.counts_of.Given as goal
 
 abbrev pub invariant-loop-i : goal.invariant-loop-i

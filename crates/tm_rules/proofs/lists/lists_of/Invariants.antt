@@ -1,6 +1,6 @@
 use Rattle.std.proofs.Common.{◌≡◌, ◌<◌, [], ℕ, length, slice_get, Some}
 use Rattle.tm_rules.specs.Candidates.{listed}
-use Rattle.tm_rules.specs.Flows.{tasks_of, IsFlow}
+use Rattle.tm_rules.specs.inner.Flows.{tasks_of, IsFlow}
 use Rattle.tm_rules.proofs.lists.lists_of.Given as goal
 
 abbrev pub invariant-loop-i : goal.invariant-loop-i

@@ -1,6 +1,6 @@
 use Rattle.std.proofs.Common.{◌≡◌, drop}
 use Rattle.tm_rules.specs.Includes.{entries, entries_after}
-use Rattle.tm_rules.specs.Keyed.{keyed}
+use Rattle.tm_rules.specs.inner.Keyed.{keyed}
 use Rattle.tm_rules.specs.Tree.{names_of}
 use Rattle.tm_rules.proofs.loaded.entries.Given as goal
 

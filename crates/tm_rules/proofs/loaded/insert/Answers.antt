@@ -2,7 +2,7 @@ use Rattle.std.proofs.Common.{ℕ, List, ap, ◌∙◌}
 use Rattle.std.specs.BTreeMap.{insert_entry}
 use Rattle.std.specs.Cmp.Lexicographic.{slice_cmp}
 use Rattle.std.specs.Ordering.{nat_cmp}
-use Rattle.tm_rules.specs.Keyed.{keyed}
+use Rattle.tm_rules.specs.inner.Keyed.{keyed}
 use Rattle.tm_rules.proofs.Keys.{keyed-insert}
 use Rattle.tm_rules.proofs.loaded.insert.Goals as goal
 

@@ -1,6 +1,6 @@
 use Rattle.std.proofs.Common.{◌≡◌, ◌++◌, List, map, ap, ◌∙◌}
 use Rattle.std.proofs.lemmas.List.{append-nil}
-use Rattle.tm_rules.specs.Tasks.{tasks_left, stacked}
+use Rattle.tm_rules.specs.inner.Tasks.{tasks_left, stacked}
 use Rattle.tm_rules.specs.declared.flow.Task.{Task}
 use Rattle.tm_rules.specs.declared.flow.Task.TheVariants.{Visit}
 use Rattle.tm_rules.proofs.Tasked.{opened-begun, left-begun}

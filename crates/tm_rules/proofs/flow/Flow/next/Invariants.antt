@@ -1,6 +1,6 @@
 use Rattle.std.proofs.Common.{◌≡◌}
-use Rattle.tm_rules.specs.Flows.{tasks_of, IsFlow}
-use Rattle.tm_rules.specs.Tasks.{tasks_left}
+use Rattle.tm_rules.specs.inner.Flows.{tasks_of, IsFlow}
+use Rattle.tm_rules.specs.inner.Tasks.{tasks_left}
 use Rattle.tm_rules.proofs.flow.Flow.next.Given as goal
 
 abbrev pub invariant-loop-self : goal.invariant-loop-self

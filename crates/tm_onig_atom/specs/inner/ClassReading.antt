@@ -12,7 +12,7 @@ use Rattle.tm_onig_atom.specs.declared.parts.Part.TheVariants.{Adds, Meets, Inne
 use Rattle.tm_onig_atom.specs.declared.parts.Front.{Front}
 use Rattle.tm_onig_atom.specs.declared.parts.Front.TheVariants as F
 use Rattle.tm_onig_atom.specs.Escapes.{begins, of_listed}
-use Rattle.tm_onig_atom.specs.Reading.{◌>>=◌, rest_of, before, meant_at}
+use Rattle.tm_onig_atom.specs.inner.Reading.{◌>>=◌, rest_of, before, meant_at}
 use Rattle.tm_onig_atom.specs.Classes.{is_raw, class_name, class_members}
 
 -- a character, where one is meant

@@ -5,7 +5,7 @@ use Rattle.tm_onig_class.specs.Tree.{tree_of}
 use Rattle.tm_onig_atom.specs.declared.fault.AtomFault.{AtomFault}
 use Rattle.tm_onig_atom.specs.declared.fault.AtomFault.TheVariants as A
 use Rattle.tm_onig_parse.specs.Meaning.{Built}
-use Rattle.tm_onig_parse.specs.Reading.{Sym, Means, Open, Switches, Close, Or, Repeats, Skips, Level, State, Outline}
+use Rattle.tm_onig_parse.specs.inner.Reading.{Sym, Means, Open, Switches, Close, Or, Repeats, Skips, Level, State, Outline}
 use Rattle.tm_onig_parse.specs.declared.ParseFault.{ParseFault}
 use Rattle.tm_onig_parse.specs.declared.ParseFault.TheVariants.{Unreadable, OutOfMemory}
 use Rattle.tm_onig_parse.specs.declared.tokens.Token.{Token}

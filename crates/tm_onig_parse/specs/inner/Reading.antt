@@ -8,16 +8,16 @@ use Rattle.tm_onig_parse.specs.declared.groups.Opener.TheVariants.{Captures, Gro
 use Rattle.tm_onig_parse.specs.declared.quantifiers.Manner.{Manner}
 use Rattle.tm_onig_parse.specs.declared.quantifiers.Manner.TheVariants.{Greedy, Lazy, Possessive, Optional}
 use Rattle.tm_onig_class.specs.declared.patterns.Position.{Position}
-use Rattle.tm_onig_atom.specs.ClassReading.{class_at}
+use Rattle.tm_onig_atom.specs.inner.ClassReading.{class_at}
 use Rattle.tm_onig_atom.specs.NoOptions.{no_options}
-use Rattle.tm_onig_atom.specs.Reading as Atom
+use Rattle.tm_onig_atom.specs.inner.Reading as Atom
 use Rattle.tm_onig_parse.specs.Characters.{single_tree, place_letter}
 use Rattle.tm_onig_atom.specs.Escapes.{begins}
 use Rattle.tm_onig_parse.specs.Names.{Names, is_name_char, starts_name, begins_digit, Key, Number, Name, meant_in}
 use Rattle.tm_onig_parse.specs.Options.{letter}
 use Rattle.tm_onig_parse.specs.Things.{is_blank, begins_reference, back_tree, sign_bounds, begun, count}
 use Rattle.tm_onig_parse.specs.Meaning.{Built, nested, leaf, row_built, alts_built, enclosed, quantified}
-use Rattle.tm_onig_atom.specs.Reading.{◌>>=◌, rest_of}
+use Rattle.tm_onig_atom.specs.inner.Reading.{◌>>=◌, rest_of}
 
 -- What is left of one thing once it is read.
 pub data Sym : Type 0 where
@@ -390,8 +390,3 @@ names_read (suc n) s (c ∷ t) = token_at None s.top (c ∷ t) >>= λ y. outline
 -- the groups of a text
 abbrev pub names_onward : Outline → List ℕ → Option Names
 names_onward s t = names_read (length t) s t
-
--- the tree of a text, if it is a pattern: first its groups are read, since a reference may stand before
--- its group
-abbrev pub parsed : List ℕ → Option Tree
-parsed t = if nat_le (length t) 65536 then (names_onward outline_start t >>= λ names. onward (Some names) start t) else None

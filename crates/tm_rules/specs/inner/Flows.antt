@@ -1,6 +1,6 @@
 -- A flattening on its way.
 use Rattle.std.specs.Prelude.{◌≡◌, List}
-use Rattle.tm_rules.specs.Tasks.{opened_by, stacked, AreMarked}
+use Rattle.tm_rules.specs.inner.Tasks.{opened_by, stacked, AreMarked}
 use Rattle.tm_rules.specs.declared.flow.Task.{Task}
 use Rattle.tm_rules.specs.declared.flow.Flow.{Flow}
 use Rattle.tm_defs.specs.declared.rules.Rule.{Rule}

@@ -1,0 +1,4 @@
+pub mod ClassReading
+pub mod Reading
+pub mod Sides
+pub mod Views

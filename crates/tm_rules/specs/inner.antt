@@ -1,0 +1,5 @@
+pub mod Flows
+pub mod Keyed
+pub mod Lists
+pub mod Tasks
+pub mod Walk
