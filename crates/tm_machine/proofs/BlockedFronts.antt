@@ -6,7 +6,7 @@ use Rattle.tm_defs.specs.declared.events.Turn.TheVariants.{Blocked}
 use Rattle.tm_defs.specs.declared.frames.FrameData.{FrameData}
 use Rattle.tm_machine.specs.declared.entries.Entry.{Entry}
 use Rattle.tm_machine.specs.Entries.{blank, front, block, blocked_at, start_at, AreRight}
-use Rattle.tm_machine.specs.Machine.{IsBlockedFront, Turns, Forces, opening}
+use Rattle.tm_machine.specs.Turns.{IsBlockedFront, Turns, Forces, opening}
 use Rattle.tm_machine.specs.Scratch.{Tokenizing, state_from_scratch}
 use Rattle.tm_machine.proofs.DoneLines.{does-length}
 use Rattle.tm_machine.proofs.Fronts.{front-facts, front-settled}

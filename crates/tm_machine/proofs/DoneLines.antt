@@ -10,7 +10,7 @@ use Rattle.tm_defs.specs.declared.frames.FrameData.{FrameData}
 use Rattle.tm_defs.specs.declared.tokens.Token.{Token}
 use Rattle.tm_machine.specs.declared.entries.Entry.{Entry}
 use Rattle.tm_machine.specs.Entries.{blank, front, put, stored, end_at, start_at, is_accurate, is_end}
-use Rattle.tm_machine.specs.Machine.{Turns, DoesLines, opening}
+use Rattle.tm_machine.specs.Turns.{Turns, DoesLines, opening}
 use Rattle.tm_machine.specs.Scratch.{Tokenizing}
 use Rattle.tm_machine.proofs.Fronts.{are_good, good-each, bad-at, front-facts, accurate-front}
 use Rattle.tm_machine.proofs.SameStates.{is_end-self}

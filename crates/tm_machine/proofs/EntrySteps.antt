@@ -1,14 +1,16 @@
 -- Each step on the entries keeps them right, and right entries are accurate.
-use Rattle.std.proofs.Common.{◌≡◌, ℕ, zero, suc, ◌+◌, ◌<◌, ◌≤◌, Bool, true, false, cond, List, [], ◌∷◌, ◌++◌, length, take, drop, map, Option, Some, None, refl, sym, ap, ◌∙◌, subst, arith, add-one}
+use Rattle.std.proofs.Common.{◌≡◌, ℕ, zero, suc, ◌+◌, ◌<◌, ◌≤◌, Bool, true, false, cond, List, [], ◌∷◌, ◌++◌, length, take, drop, replicate, Option, Some, None, refl, sym, ap, ◌∙◌, subst, arith, add-one}
 use Rattle.std.specs.Prelude.{slice_get}
 use Rattle.std.specs.List.{list_all}
 use Rattle.std.proofs.lemmas.Bool.{and_parts}
 use Rattle.std.proofs.lemmas.Option.{slice_get-get_or}
 use Rattle.tm_defs.specs.declared.frames.FrameData.{FrameData}
+use Rattle.tm_defs.specs.declared.tokens.Token.{Token}
 use Rattle.tm_machine.specs.declared.entries.Entry.{Entry}
 use Rattle.tm_machine.specs.Changes.{spliced}
 use Rattle.tm_machine.specs.Scratch.{Tokenizing, state_from}
-use Rattle.tm_machine.specs.Entries.{blank, invalid, first_invalid, put, stored, is_end, end_at, start_at, block, last_end, blanks, is_accurate, Holds, IsRight, AreRight, IsFromScratch, AreAccurate}
+use Rattle.tm_machine.specs.Accepts.{good_at}
+use Rattle.tm_machine.specs.Entries.{blank, invalid, first_invalid, put, guess, stored, is_end, end_at, start_at, block, last_end, blanks, is_accurate, Holds, IsRight, AreRight, IsFromScratch, AreAccurate}
 use Rattle.tm_machine.proofs.Fronts.{good-settled}
 use Rattle.tm_machine.proofs.SameStates.{is_end-true}
 
@@ -46,6 +48,15 @@ module _ (k : Tokenizing) (budget : ℕ) where
   AreRight-stored before lines es i s line h st at =
       AreRight-put before lines es i s line (is_end (end_at es i) (k.tokenized s line).end) h st at (λ e. is_end-true (end_at es i) (k.tokenized s line).end e)
 
+  -- what is guessed of a line that is not good
+  pub AreRight-guess : (before : Option (List FrameData)) (lines : List (List ℕ)) (es : List (Entry (List FrameData))) (i : ℕ) (tokens : List Token) (end : List FrameData) (same : Bool) →
+      AreRight k budget before lines es → good_at es i ≡ false → (same ≡ true → end_at es i ≡ Some end) → AreRight k budget before lines (guess es i tokens end same)
+  AreRight-guess before [] [] i tokens end same h bad e = tt
+  AreRight-guess before [] (x ∷ es) i tokens end same h bad e = absurd h
+  AreRight-guess before (l ∷ lines) [] i tokens end same h bad e = absurd h
+  AreRight-guess before (l ∷ lines) (x ∷ es) zero tokens end same h bad e = (record { good = λ g. absurd (cc); blocked = h.0.blocked }, right-behind x.end end lines es same e h.1)
+  AreRight-guess before (l ∷ lines) (x ∷ es) (suc i) tokens end same h bad e = (h.0, AreRight-guess x.end lines es i tokens end same h.1 bad e)
+
   -- a line that is not good and costs too much is blocked
   pub AreRight-block : (before : Option (List FrameData)) (lines : List (List ℕ)) (es : List (Entry (List FrameData))) (i : ℕ) (s : List FrameData) (line : List ℕ) →
       AreRight k budget before lines es → ((e : Entry (List FrameData)) → slice_get es i ≡ Some e → e.good ≡ false) → start_at before es i ≡ Some s → slice_get lines i ≡ Some line → budget < k.plain_cost s line →
@@ -75,7 +86,7 @@ module _ (k : Tokenizing) (budget : ℕ) where
   right-blanks (suc n) before end (x ∷ news) lines es l h = (idle-right k budget before x (blank None) refl refl, right-blanks n None end news lines es (omega arith) h)
 
   -- what is left behind the first old entries
-  right-drop : (old : ℕ) (before : Option (List FrameData)) (lines : List (List ℕ)) (es : List (Entry (List FrameData))) → AreRight k budget before lines es → AreRight k budget (last_end before (take old es)) (drop old lines) (drop old es)
+  pub right-drop : (old : ℕ) (before : Option (List FrameData)) (lines : List (List ℕ)) (es : List (Entry (List FrameData))) → AreRight k budget before lines es → AreRight k budget (last_end before (take old es)) (drop old lines) (drop old es)
   right-drop zero before lines es h = h
   right-drop (suc old) before [] [] h = tt
   right-drop (suc old) before [] (e ∷ es) h = absurd h
@@ -92,7 +103,7 @@ module _ (k : Tokenizing) (budget : ℕ) where
   AreRight-spliced (suc first) old n before news (line ∷ lines) [] l w h = absurd h
   AreRight-spliced (suc first) old n before news (line ∷ lines) (e ∷ es) l w h = (h.0, AreRight-spliced first old n e.end news lines es l (omega arith) h.1)
 
-  pub AreRight-blank : (before : Option (List FrameData)) (lines : List (List ℕ)) → AreRight k budget before lines (map (λ line. blank None) lines)
+  pub AreRight-blank : (before : Option (List FrameData)) (lines : List (List ℕ)) → AreRight k budget before lines (replicate (length lines) (blank None))
   AreRight-blank before [] = tt
   AreRight-blank before (l ∷ lines) = (idle-right k budget before l (blank None) refl refl, AreRight-blank None lines)
 

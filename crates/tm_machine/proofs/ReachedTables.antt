@@ -8,7 +8,8 @@ use Rattle.tm_defs.specs.declared.frames.FrameData.{FrameData}
 use Rattle.tm_defs.specs.Tables.{Tables, TableEntries, GrowsBy, GrowsWithin, IsNumbering, LacksEntry}
 use Rattle.tm_machine.specs.declared.entries.Entry.{Entry}
 use Rattle.tm_machine.specs.Entries.{AreRight, start_at, front, blank}
-use Rattle.tm_machine.specs.Machine.{Rules, IsReady, opening}
+use Rattle.tm_machine.specs.Documents.{Rules}
+use Rattle.tm_machine.specs.Turns.{IsReady, opening}
 use Rattle.tm_machine.specs.Reach.{Stand, stand_after, stands_of, IsMadeIn, GainsFrom, GrowsByLines, IsMade, ReachesText, ReachesPath, ReachesState, HasMoreThan, ReachesMoreThan, IsWithinReach}
 use Rattle.tm_machine.specs.Scratch.{Tokenizing, state_from, state_from_scratch}
 use Rattle.tm_machine.proofs.Fronts.{not-false}
@@ -38,11 +39,11 @@ front-start k budget lines es i h at =
     start-scratch k budget [] lines es i h (omega (arith, p.0)) (λ j lt. not-false _ (p.2 j lt))
 
 module _ {X : Type 0} where
-  every-append : (P : X → Type 0) (xs ys : List X) → AllByRecursion P xs → AllByRecursion P ys → AllByRecursion P (xs ++ ys)
+  pub every-append : (P : X → Type 0) (xs ys : List X) → AllByRecursion P xs → AllByRecursion P ys → AllByRecursion P (xs ++ ys)
   every-append P [] ys h k = k
   every-append P (x ∷ xs) ys h k = (h.0, every-append P xs ys h.1 k)
 
-  every-as : (P Q : X → Type 0) → ((x : X) → P x → Q x) → (xs : List X) → AllByRecursion P xs → AllByRecursion Q xs
+  pub every-as : (P Q : X → Type 0) → ((x : X) → P x → Q x) → (xs : List X) → AllByRecursion P xs → AllByRecursion Q xs
   every-as P Q f [] h = tt
   every-as P Q f (x ∷ xs) h = (f x h.0, every-as P Q f xs h.1)
 

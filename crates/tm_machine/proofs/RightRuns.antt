@@ -1,4 +1,4 @@
--- Each step of the machine keeps its entries right.
+-- Each step on a text keeps what is kept of its lines right.
 use Rattle.std.proofs.Common.{◌≡◌, ℕ, zero, suc, ◌+◌, ◌-◌, ◌<◌, ◌≤◌, false, not, List, [], ◌∷◌, ◌++◌, length, take, drop, Option, Some, None, refl, sym, ap, ◌∙◌, subst, inl, inr, arith}
 use Rattle.std.specs.Prelude.{slice_get}
 use Rattle.std.proofs.lemmas.List.Quantifiers.{position-Some}
@@ -12,10 +12,11 @@ use Rattle.tm_defs.specs.declared.frames.FrameData.{FrameData}
 use Rattle.tm_machine.specs.declared.entries.Entry.{Entry}
 use Rattle.tm_machine.specs.Changes.{lines_changed, new_lines, effect_of, spliced}
 use Rattle.tm_machine.specs.Entries.{blanks, last_end, replaced, front, AreRight}
-use Rattle.tm_machine.specs.Machine.{Rules, Machine, Answer, Edited, Lined, Forced, Steps, Runs, Turns, DoesLines, Rests, Forces, IsAccurate, machine_of, opening}
+use Rattle.tm_machine.specs.Documents.{Rules, Document, Refusal, Answer, Edited, Set, Lined, Forced, Refused, HasRightEntries, RunsTo, StopsWithin, DocumentSteps, edited, reset, new_document}
+use Rattle.tm_machine.specs.Turns.{Turns, DoesLines, Rests, Forces, opening}
 use Rattle.tm_machine.specs.Places.{IsIn, line_at}
 use Rattle.tm_machine.specs.Scratch.{Tokenizing}
-use Rattle.tm_machine.proofs.EntrySteps.{AreRight-stored, AreRight-block, AreRight-spliced, AreRight-blank, AreAccurate-right}
+use Rattle.tm_machine.proofs.EntrySteps.{AreRight-stored, AreRight-block, AreRight-spliced, AreRight-blank}
 use Rattle.tm_machine.proofs.Fronts.{not-true}
 use Rattle.tm_machine.proofs.TextLines.{lines_some}
 
@@ -58,23 +59,32 @@ module _ (k : Tokenizing) (budget : ℕ) where
       (omega (arith, within.first, within.last, within.lines_in_order)) h
 
 module _ (r : Rules) where
-  abbrev pub Right : Machine → Type 0
-  Right m = AreRight (r.setting m.fore.epoch) r.budget opening m.fore.text.lines m.fore.entries
+  pub right-edited : (d : Document) (c : Change) → IsIn d.lines c → HasRightEntries r d → HasRightEntries r (edited d c)
+  right-edited d c within h = AreRight-replaced (r.setting d.epoch) r.budget d.lines d.entries c within h
 
-  pub right-step : (m : Machine) (s : Step) (a : Answer) (n : Machine) → Right m → Steps r m s a n → Right n
-  right-step m (step.Edit c) (Edited version) n h d = subst Right (sym d.2) (AreRight-replaced (r.setting m.fore.epoch) r.budget m.fore.text.lines m.fore.entries c d.0 h)
-  right-step m step.Line (Lined turn) n h d = subst Right (sym d.2) (AreRight-turn (r.setting m.fore.epoch) r.budget m.fore.text.lines m.fore.entries turn d.0 h d.1)
-  right-step m step.Settle (Forced done blocked) n h d =
-      subst Right (sym d.2) (AreRight-forces (r.setting m.fore.epoch) r.budget m.fore.text.lines (length m.fore.text.lines - 1) m.fore.entries done blocked d.0 h d.1)
-  right-step m _ _ n h d = absurd d
+  pub right-reset : (d : Document) (number : ℕ) → HasRightEntries r (reset d number)
+  right-reset d number = AreRight-blank (r.setting number) r.budget opening d.lines
 
-  pub right-new : (lines : List (List ℕ)) → Right (machine_of lines)
+  pub right-new : (lines : List (List ℕ)) → HasRightEntries r (new_document lines)
   right-new lines = AreRight-blank (r.setting 0) r.budget opening lines
 
-  right-run : (m : Machine) (xs : List (Step × Answer)) (n : Machine) → Right m → Runs r m xs n → Right n
-  right-run m [] n h d = subst Right (sym d) h
-  right-run m (x ∷ xs) n h d = right-run d.0 xs n (right-step m x.0 x.1 d.0 h d.1) d.2
+  runs-to-right : (d : Document) (last done : ℕ) (blocked : Option ℕ) (n : Document) → HasRightEntries r d → RunsTo r d last done blocked n → HasRightEntries r n
+  runs-to-right d last done blocked n h x = subst (HasRightEntries r) (sym x.2) (AreRight-forces (r.setting d.epoch) r.budget d.lines last d.entries done blocked x.0 h x.1)
 
-  pub accurate-run : (lines : List (List ℕ)) (xs : List (Step × Answer)) (m : Machine) → Runs r (machine_of lines) xs m → IsAccurate r m
-  accurate-run lines xs m d =
-      AreAccurate-right (r.setting m.fore.epoch) r.budget m.fore.text.lines m.fore.entries (right-run (machine_of lines) xs m (right-new lines) d)
+  stops-right : (d : Document) (last : ℕ) (why : Refusal) (n : Document) → HasRightEntries r d → StopsWithin r d last why n → HasRightEntries r n
+  stops-right d last why n h x = subst (HasRightEntries r) (sym x.1.3) (AreRight-does (r.setting d.epoch) r.budget d.lines last d.entries x.1.0 x.1.1 h x.1.2)
+
+  -- each step on a text keeps what is kept of its lines right
+  pub right-step : (d : Document) (s : Step) (a : Answer) (n : Document) → HasRightEntries r d → DocumentSteps r d s a n → HasRightEntries r n
+  right-step d (step.Edit c) (Edited version) n h x = subst (HasRightEntries r) (sym x.2) (right-edited d c x.0.within h)
+  right-step d (step.Edit c) (Refused why) n h x = subst (HasRightEntries r) (sym x.1) h
+  right-step d (step.Setting number) Set n h x = subst (HasRightEntries r) (sym x.1) (right-reset d number)
+  right-step d (step.Setting number) (Refused why) n h x = subst (HasRightEntries r) (sym x.1) h
+  right-step d step.Line (Lined turn) n h x = subst (HasRightEntries r) (sym x.2) (AreRight-turn (r.setting d.epoch) r.budget d.lines d.entries turn x.0 h x.1)
+  right-step d step.Line (Refused why) n h x = subst (HasRightEntries r) (sym x.1) h
+  right-step d (step.Force line) (Forced done blocked) n h x = runs-to-right d line done blocked n h x.1
+  right-step d (step.Force line) (Refused why) n h (inl x) = subst (HasRightEntries r) (sym x.2) h
+  right-step d (step.Force line) (Refused why) n h (inr x) = stops-right d line why n h x.1
+  right-step d step.Settle (Forced done blocked) n h x = runs-to-right d (length d.lines - 1) done blocked n h x
+  right-step d step.Settle (Refused why) n h x = stops-right d (length d.lines - 1) why n h x
+  right-step d _ _ n h x = absurd x

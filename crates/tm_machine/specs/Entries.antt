@@ -56,6 +56,12 @@ put (e ∷ es) zero tokens end same =
     record { tokens = Some tokens; end = Some end; good = true; blocked = false } ∷ (if same then es else first_invalid es)
 put (e ∷ es) (suc i) tokens end same = e ∷ put es i tokens end same
 
+-- tokens and end are guessed at i, which stays as good and as blocked as it was. The next entry is as in a put
+abbrev pub guess : {S : Type 0} → List (Entry S) → ℕ → List Token → S → Bool → List (Entry S)
+guess [] i tokens end same = []
+guess (e ∷ es) zero tokens end same = record e { tokens = Some tokens; end = Some end } ∷ (if same then es else first_invalid es)
+guess (e ∷ es) (suc i) tokens end same = e ∷ guess es i tokens end same
+
 abbrev pub is_end : Option (List FrameData) → List FrameData → Bool
 is_end None s = false
 is_end (Some d) s = same_state d s

@@ -1,9 +1,17 @@
+pub mod Accepts
 pub mod Births
 pub mod Changes
+pub mod Documents
 pub mod Entries
 pub mod Machine
+pub mod Numbered
+pub mod Past
 pub mod Places
 pub mod Reach
 pub mod Scratch
 pub mod Settings
+pub mod Sizes
+pub mod Sound
 pub mod States
+pub mod Turns
+pub mod Work

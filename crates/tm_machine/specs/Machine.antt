@@ -1,23 +1,21 @@
--- The machine of births: what the steps of the service do to a text and to what is kept of its lines.
--- It is the foreground alone here; the worker, the orders and the batches come beside it.
-use Rattle.std.specs.Prelude.{◌≡◌, ℕ, suc, ◌-◌, ◌<◌, ◌⊎◌, true, false, List, [], ◌∷◌, length, map, Option, Some, None, slice_get}
+-- The machine of births: a foreground and a worker, each with a text whose lines have births, the orders that
+-- wait for the worker, and the batches that wait for the foreground. It never maps a line number.
+use Rattle.std.specs.Prelude.{◌≡◌, ◌≢◌, ℕ, zero, suc, ◌<◌, Bool, true, false, ◌&&◌, List, [], ◌∷◌, ◌++◌, length, map, replicate, Option, Some, None, option_and_then, slice_get}
 use Rattle.tm_defs.specs.declared.changes.Change.{Change}
+use Rattle.tm_defs.specs.declared.changes.LineEffect.{LineEffect}
 use Rattle.tm_defs.specs.declared.events.Step.{Step}
 use Rattle.tm_defs.specs.declared.events.Step.TheVariants as step
 use Rattle.tm_defs.specs.declared.events.Turn.{Turn}
 use Rattle.tm_defs.specs.declared.events.Turn.TheVariants.{Done, Idle, Blocked}
 use Rattle.tm_defs.specs.declared.frames.FrameData.{FrameData}
+use Rattle.tm_defs.specs.declared.tokens.Token.{Token}
 use Rattle.tm_machine.specs.declared.entries.Entry.{Entry}
-use Rattle.tm_machine.specs.Changes.{BornText, changed, opened, effect_of}
-use Rattle.tm_machine.specs.Entries.{blank, block, blocked_at, front, is_accurate, replaced, start_at, stored, AreAccurate}
-use Rattle.tm_machine.specs.Places.{IsIn}
-use Rattle.tm_machine.specs.Scratch.{Tokenizing, state_from_scratch}
-
--- what each setting makes of lines, how many settings there are, and the budget of a line
-pub record Rules : Type 0 where
-  pub setting : ℕ → Tokenizing
-  pub settings : ℕ
-  pub budget : ℕ
+use Rattle.tm_machine.specs.Accepts.{Made, Use, Touched, no_counts, counts_from, use_of, used_at}
+use Rattle.tm_machine.specs.Births.{Birth, place_of}
+use Rattle.tm_machine.specs.Changes.{BornText, changed, opened, effect_of, spliced}
+use Rattle.tm_machine.specs.Documents.{Rules, Document, Answer, Edited, Set, Lined, Nothing, Drained, Worked, Posted, Used, OtherEpoch, Refused, IsTableRefusal, IsMemoryRefusal, DocumentSteps, blank_entries, edited, reset}
+use Rattle.tm_machine.specs.Entries.{is_end, AreAccurate}
+use Rattle.tm_machine.specs.Turns.{opening}
 
 -- a text with births, the number of its setting, and what is kept of its lines
 pub record Side : Type 0 where
@@ -25,80 +23,150 @@ pub record Side : Type 0 where
   pub epoch : ℕ
   pub entries : List (Entry (List FrameData))
 
+-- a side as it is seen without births, and a document with the births of a text
+abbrev pub seen : Side → Document
+seen s = record { lines = s.text.lines; version = s.text.version; epoch = s.epoch; entries = s.entries }
+
+abbrev pub with_births : BornText → Document → Side
+with_births t d = record { text = t; epoch = d.epoch; entries = d.entries }
+
+-- what is kept of the line of a birth
+abbrev pub entry_of : Side → Birth → Option (Entry (List FrameData))
+entry_of s b = option_and_then (slice_get s.entries) (place_of s.text.births b)
+
+pub data Order : Type 0 where
+  ChangeOrder : (version : ℕ) (change : Change) → Order
+  SettingOrder : (number : ℕ) → Order
+
+-- what was made of the line of a birth
+pub record Item : Type 0 where
+  pub birth : Birth
+  pub made : Made (List FrameData)
+  pub open made use *
+
+pub record Batch : Type 0 where
+  pub epoch : ℕ
+  pub version : ℕ
+  pub items : List Item
+
+-- orders and batches wait oldest first. A line of the worker is fresh where it was done and not posted since
 pub record Machine : Type 0 where
   pub fore : Side
-
--- what the machine answers to a step that is not refused
-pub data Answer : Type 0 where
-  Edited : (version : ℕ) → Answer
-  Lined : (turn : Turn) → Answer
-  Forced : (done : ℕ) (blocked : Option ℕ) → Answer
-
-abbrev pub opening : Option (List FrameData)
-opening = Some []
+  pub back : Side
+  pub fresh : List Bool
+  pub orders : List Order
+  pub batches : List Batch
 
 -- all begins with the opening text, blank entries and the numbers 0
 abbrev pub side_of : List (List ℕ) → Side
-side_of lines = record { text = opened lines; epoch = 0; entries = map (λ line. blank None) lines }
+side_of lines = record { text = opened lines; epoch = 0; entries = blank_entries lines }
 
 abbrev pub machine_of : List (List ℕ) → Machine
-machine_of lines = record { fore = side_of lines }
+machine_of lines = record { fore = side_of lines; back = side_of lines; fresh = replicate (length lines) false; orders = []; batches = [] }
 
--- the new lines of a change are blank, but the last of them has the end of the last replaced line
-abbrev pub edited : Side → Change → Side
-edited s c = record { text = changed s.text c; epoch = s.epoch; entries = replaced (effect_of s.text.lines c) s.entries }
+-- a step of the foreground that was done: births follow the text, and an edit or a setting adds its order
+abbrev pub text_after : BornText → Step → Answer → BornText
+text_after t (step.Edit c) (Edited version) = changed t c
+text_after t _ _ = t
 
--- the front is line i, it is not blocked, and has this start and these characters
-pub record IsReady (lines : List (List ℕ)) (es : List (Entry (List FrameData))) (i : ℕ) (start : List FrameData) (line : List ℕ) : Type 0 where
-  pub at_front : front es ≡ Some i
-  pub not_blocked : blocked_at es i ≡ false
-  pub begins : start_at opening es i ≡ Some start
-  pub holds : slice_get lines i ≡ Some line
+abbrev pub orders_after : List Order → Step → Answer → List Order
+orders_after orders (step.Edit c) (Edited version) = orders ++ ChangeOrder version c ∷ []
+orders_after orders (step.Setting number) Set = orders ++ SettingOrder number ∷ []
+orders_after orders _ _ = orders
 
--- the front is line i, it is blocked, and its line costs more than the budget from its state from scratch
-pub record IsBlockedFront (k : Tokenizing) (budget : ℕ) (lines : List (List ℕ)) (es : List (Entry (List FrameData))) (i : ℕ) : Type 0 where
-  pub at_front : front es ≡ Some i
-  pub blocked : blocked_at es i ≡ true
-  pub costs : (line : List ℕ) × (slice_get lines i ≡ Some line) × (budget < k.plain_cost (state_from_scratch k lines i) line)
+abbrev pub ForeSteps : Rules → Machine → Step → Answer → Machine → Type 0
+ForeSteps r m s a n = (d : Document) × DocumentSteps r (seen m.fore) s a d × (n ≡ record m { fore = with_births (text_after m.fore.text s a) d; orders = orders_after m.orders s a })
 
--- a turn on the front: its line is done or newly blocked. Where the cost exceeds the budget either may come
-abbrev pub Turns : Tokenizing → ℕ → List (List ℕ) → List (Entry (List FrameData)) → Turn → List (Entry (List FrameData)) → Type 0
-Turns k budget lines es Idle after = (front es ≡ None) × (after ≡ es)
-Turns k budget lines es (Done i) after = (start : List FrameData) × (line : List ℕ) × IsReady lines es i start line × (after ≡ stored es i (k.tokenized start line))
-Turns k budget lines es (Blocked i) after =
-    ((front es ≡ Some i) × (blocked_at es i ≡ true) × (after ≡ es))
-    ⊎ ((start : List FrameData) × (line : List ℕ) × IsReady lines es i start line × (budget < k.plain_cost start line) × (after ≡ block es i))
+-- the worker does an order as the foreground did its step; new lines are not fresh, and behind a setting none is
+abbrev pub obeyed : Side → Order → Side
+obeyed s (ChangeOrder version c) = with_births (changed s.text c) (edited (seen s) c)
+obeyed s (SettingOrder number) = with_births s.text (reset (seen s) number)
 
--- turns that each do a line, as long as not every line up to the last one is good: the lines done, in order
-abbrev pub DoesLines : Tokenizing → ℕ → List (List ℕ) → (last : ℕ) → List (Entry (List FrameData)) → (done : List ℕ) → List (Entry (List FrameData)) → Type 0
-DoesLines k budget lines last es [] after = after ≡ es
-DoesLines k budget lines last es (i ∷ done) after =
-    (is_accurate es last ≡ false) × ((mid : List (Entry (List FrameData))) × Turns k budget lines es (Done i) mid × DoesLines k budget lines last mid done after)
+abbrev pub fresh_obeyed : List (List ℕ) → List Bool → Order → List Bool
+fresh_obeyed lines fresh (ChangeOrder version c) = let e : LineEffect = effect_of lines c in spliced e.first e.old (replicate e.new false) fresh
+fresh_obeyed lines fresh (SettingOrder number) = map (λ f. false) fresh
 
--- then no line is to be done: every line up to the last one is good, or the front is blocked
-abbrev pub Rests : Tokenizing → ℕ → List (List ℕ) → (last : ℕ) → List (Entry (List FrameData)) → (blocked : Option ℕ) → List (Entry (List FrameData)) → Type 0
-Rests k budget lines last es None after = (is_accurate es last ≡ true) × (after ≡ es)
-Rests k budget lines last es (Some i) after = (is_accurate es last ≡ false) × Turns k budget lines es (Blocked i) after
+abbrev pub Drains : Machine → Answer → Machine → Type 0
+Drains m Nothing n = (m.orders ≡ []) × (n ≡ m)
+Drains m Drained n = (o : Order) × (os : List Order) × (m.orders ≡ o ∷ os) × (n ≡ record m { back = obeyed m.back o; fresh = fresh_obeyed m.back.text.lines m.fresh o; orders = os })
+Drains m (Refused why) n = IsMemoryRefusal why × (n ≡ m)
+Drains m _ n = ⊥
 
--- turns are repeated until every line up to the last one is good or a turn answers Blocked
-pub record Forces (k : Tokenizing) (budget : ℕ) (lines : List (List ℕ)) (last : ℕ) (es : List (Entry (List FrameData))) (count : ℕ) (blocked : Option ℕ) (after : List (Entry (List FrameData))) : Type 0 where
-  pub done : List ℕ
-  pub behind : List (Entry (List FrameData))
-  pub does : DoesLines k budget lines last es done behind
-  pub counts : count ≡ length done
-  pub rests : Rests k budget lines last behind blocked after
+-- a turn of the worker; the line that is done is fresh
+abbrev pub marked : List Bool → ℕ → List Bool
+marked [] i = []
+marked (f ∷ fs) zero = true ∷ fs
+marked (f ∷ fs) (suc i) = f ∷ marked fs i
+
+abbrev pub fresh_after : List Bool → Turn → List Bool
+fresh_after fresh (Done i) = marked fresh i
+fresh_after fresh Idle = fresh
+fresh_after fresh (Blocked i) = fresh
+
+abbrev pub Works : Rules → Machine → Answer → Machine → Type 0
+Works r m (Worked turn) n = (d : Document) × DocumentSteps r (seen m.back) step.Line (Lined turn) d × (n ≡ record m { back = with_births m.back.text d; fresh = fresh_after m.fresh turn })
+Works r m (Refused why) n = IsTableRefusal why × (n ≡ m)
+Works r m _ n = ⊥
+
+-- the lines that are fresh and good, in text order, where the first of them begins in a state
+abbrev pub item_if : Bool → Birth → List ℕ → (start : Option (List FrameData)) → (tokens : Option (List Token)) → (end : Option (List FrameData)) → List Item
+item_if true b line (Some start) (Some tokens) (Some end) = record { birth = b; made = record { line = line; start = start; tokens = tokens; end = end } } ∷ []
+item_if _ _ _ _ _ _ = []
+
+abbrev pub fresh_items : (before : Option (List FrameData)) → List Birth → List (List ℕ) → List (Entry (List FrameData)) → List Bool → List Item
+fresh_items before (b ∷ bs) (line ∷ lines) (e ∷ es) (f ∷ fs) = item_if (f && e.good) b line before e.tokens e.end ++ fresh_items e.end bs lines es fs
+fresh_items before _ _ _ _ = []
+
+abbrev pub items_of : Side → List Bool → List Item
+items_of s fresh = fresh_items opening s.text.births s.text.lines s.entries fresh
+
+-- they become a batch, and no line is fresh any more
+abbrev pub Posts : Machine → Answer → Machine → Type 0
+Posts m Nothing n = (items_of m.back m.fresh ≡ []) × (n ≡ m)
+Posts m (Posted count) n =
+    (0 < count) × (count ≡ length (items_of m.back m.fresh))
+    × (n ≡ record m { fresh = map (λ f. false) m.fresh; batches = m.batches ++ record { epoch = m.back.epoch; version = m.back.text.version; items = items_of m.back m.fresh } ∷ [] })
+Posts m (Refused why) n = IsMemoryRefusal why × (n ≡ m)
+Posts m _ n = ⊥
+
+-- an item is used where its birth stands, whose characters are its own
+abbrev pub use_at : List (Entry (List FrameData)) → Item → Option ℕ → Use
+use_at es x None = Touched
+use_at es x (Some i) = use_of is_end opening es true x.start i
+
+abbrev pub entries_at : List (Entry (List FrameData)) → Item → Option ℕ → List (Entry (List FrameData))
+entries_at es x None = es
+entries_at es x (Some i) = used_at is_end (use_at es x (Some i)) es x.tokens x.end i
+
+abbrev pub all_used : List Birth → List (Entry (List FrameData)) → List Item → List (Entry (List FrameData))
+all_used births es [] = es
+all_used births es (x ∷ xs) = all_used births (entries_at es x (place_of births x.birth)) xs
+
+abbrev pub all_uses : List Birth → List (Entry (List FrameData)) → List Item → List Use
+all_uses births es [] = []
+all_uses births es (x ∷ xs) = use_at es x (place_of births x.birth) ∷ all_uses births (entries_at es x (place_of births x.birth)) xs
+
+-- the oldest batch is taken; one of another setting changes nothing else
+abbrev pub Accepts : Machine → Answer → Machine → Type 0
+Accepts m Nothing n = (m.batches ≡ []) × (n ≡ m)
+Accepts m (OtherEpoch batch model) n = (b : Batch) × (bs : List Batch) × (m.batches ≡ b ∷ bs) × (b.epoch ≢ m.fore.epoch) × (batch ≡ b.epoch) × (model ≡ m.fore.epoch) × (n ≡ record m { batches = bs })
+Accepts m (Used counts) n =
+    (b : Batch) × (bs : List Batch) × (m.batches ≡ b ∷ bs) × (b.epoch ≡ m.fore.epoch) × (counts ≡ counts_from no_counts (all_uses m.fore.text.births m.fore.entries b.items))
+    × (n ≡ record m { fore = record (m.fore) { entries = all_used m.fore.text.births m.fore.entries b.items }; batches = bs })
+Accepts m (Refused why) n = IsTableRefusal why × (n ≡ m)
+Accepts m _ n = ⊥
 
 -- one step: from m the machine may answer so and go on to n
 abbrev pub Steps : Rules → Machine → Step → Answer → Machine → Type 0
-Steps r m (step.Edit c) (Edited version) n =
-    IsIn m.fore.text.lines c × (version ≡ suc m.fore.text.version) × (n ≡ record m { fore = edited m.fore c })
-Steps r m step.Line (Lined turn) n =
-    (es : List (Entry (List FrameData))) × Turns (r.setting m.fore.epoch) r.budget m.fore.text.lines m.fore.entries turn es
-    × (n ≡ record m { fore = record (m.fore) { entries = es } })
-Steps r m step.Settle (Forced done blocked) n =
-    (es : List (Entry (List FrameData))) × Forces (r.setting m.fore.epoch) r.budget m.fore.text.lines (length m.fore.text.lines - 1) m.fore.entries done blocked es
-    × (n ≡ record m { fore = record (m.fore) { entries = es } })
-Steps r m _ _ n = ⊥
+Steps r m step.Drain a n = Drains m a n
+Steps r m step.Work a n = Works r m a n
+Steps r m step.Post a n = Posts m a n
+Steps r m step.Accept a n = Accepts m a n
+Steps r m (step.Edit c) a n = ForeSteps r m (step.Edit c) a n
+Steps r m (step.Setting number) a n = ForeSteps r m (step.Setting number) a n
+Steps r m step.Line a n = ForeSteps r m step.Line a n
+Steps r m (step.Force line) a n = ForeSteps r m (step.Force line) a n
+Steps r m step.Settle a n = ForeSteps r m step.Settle a n
 
 -- steps with their answers, one after another
 abbrev pub Runs : Rules → Machine → List (Step × Answer) → Machine → Type 0

@@ -7,7 +7,8 @@ use Rattle.tm_defs.specs.declared.events.Step.TheVariants as step
 use Rattle.tm_defs.specs.declared.frames.FrameData.{FrameData}
 use Rattle.tm_defs.specs.Tables.{Tables, TableEntries, NoneTwice}
 use Rattle.tm_machine.specs.Changes.{lines_changed}
-use Rattle.tm_machine.specs.Machine.{Rules, Machine}
+use Rattle.tm_machine.specs.Documents.{Rules}
+use Rattle.tm_machine.specs.Machine.{Machine}
 use Rattle.tm_machine.specs.Scratch.{Tokenizing, state_from_scratch}
 
 -- lines, with the number of the setting that stands beside them

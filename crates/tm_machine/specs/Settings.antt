@@ -3,7 +3,7 @@ use Rattle.std.specs.Prelude.{ℕ, List, [], length, Option, Some, None, slice_g
 use Rattle.tm_defs.specs.declared.frames.FrameData.{FrameData}
 use Rattle.tm_defs.specs.Tables.{TableEntries, none_made}
 use Rattle.tm_defs.specs.Tokenizer.{Tokenized}
-use Rattle.tm_machine.specs.Machine.{Rules}
+use Rattle.tm_machine.specs.Documents.{Rules}
 use Rattle.tm_machine.specs.Scratch.{Tokenizing}
 
 -- behind the last setting: no step comes to it

@@ -6,11 +6,16 @@ ghost use Rattle.tm_defs.specs.declared.changes.Place.{Place};
 ghost use Rattle.tm_defs.specs.declared.events.Step.{Step};
 ghost use Rattle.tm_machine.specs.Changes.{BornText, IsBorn, AreIn, changed, changed_by, effects_of, opened, line_after, lines_of, HaveNoBreak};
 ghost use Rattle.tm_machine.specs.Births.{Birth, place_of};
-ghost use Rattle.tm_machine.specs.Entries.{AreRight, AreAccurate, blocked_at, front, is_accurate, start_at};
-ghost use Rattle.tm_machine.specs.Machine.{Rules, Machine, Answer, DoesLines, Forces, IsBlockedFront, Runs, IsAccurate, machine_of, opening};
+ghost use Rattle.tm_machine.specs.Entries.{AreRight, AreAccurate, blocked_at, front, is_accurate, is_settled, start_at};
+ghost use Rattle.tm_machine.specs.Documents.{Rules, Document, Answer, HasRightEntries, RunsTo, edited};
+ghost use Rattle.tm_machine.specs.Machine.{Machine, Side, Runs, IsAccurate, entry_of, machine_of, seen, with_births};
+ghost use Rattle.tm_machine.specs.Turns.{DoesLines, Forces, IsBlockedFront, opening};
+ghost use Rattle.tm_machine.specs.Past.{IsWithinPast, stands_of_run};
 ghost use Rattle.tm_machine.specs.Places.{IsIn, bad_place};
 ghost use Rattle.tm_machine.specs.Reach.{Stand, GrowsByLines, IsWithinReach, ReachesMoreThan};
 ghost use Rattle.tm_machine.specs.Scratch.{Tokenizing, state_from_scratch};
+ghost use Rattle.tm_machine.specs.Sound.{IsSound, IsSoundSide};
+ghost use Rattle.tm_machine.specs.Work.{work};
 ghost use Rattle.tm_defs.specs.Tables.{Tables, TableEntries, IsNumbering, LacksEntry};
 ghost use Rattle.tm_machine.specs.declared.entries.Entry.{Entry};
 ghost use Rattle.tm_defs.specs.declared.frames.FrameData.{FrameData};
@@ -26,6 +31,11 @@ pub fn births_differ()
 pub fn line_map_finds_births()
     ensures place { (t : BornText) (cs : List Change) (b : Birth) (i : ℕ) → IsBorn t → AreIn t cs → place_of t.births b ≡ Some i → place_of (changed_by t cs).births b ≡ line_after (effects_of t cs) i }
     ensures line { (t : BornText) (cs : List Change) (i j : ℕ) → AreIn t cs → line_after (effects_of t cs) i ≡ Some j → slice_get (changed_by t cs).lines j ≡ slice_get t.lines i }
+{}
+
+/// A change keeps what is kept of each line whose birth it leaves.
+pub fn changes_keep_entries()
+    ensures { (r : Rules) (s : Side) (c : Change) (b : Birth) (i j : ℕ) → IsSoundSide r s → IsIn s.text.lines c → place_of s.text.births b ≡ Some i → place_of (changed s.text c).births b ≡ Some j → entry_of (with_births (changed s.text c) (edited (seen s) c)) b ≡ entry_of s b }
 {}
 
 /// The lines of a text hold no line break, and there is at least one.
@@ -47,9 +57,25 @@ pub fn accurate_is_from_scratch()
     ensures { (k : Tokenizing) (budget : ℕ) (lines : List (List ℕ)) (es : List (Entry (List FrameData))) → AreRight k budget opening lines es → AreAccurate k lines es }
 {}
 
-/// Whatever steps the machine takes, and however it chooses, what is kept is accurate.
+/// Whatever steps the machine takes, and however it chooses: each good line of both sides is what its
+/// line gives from its start, and each blocked one costs more than the budget; the worker can do the
+/// waiting orders, and they lead it to the foreground's text and setting; and each item of a waiting batch is what its line
+/// gives from its start, and has the characters of the line of its birth where that still stands.
+pub fn every_run_is_sound()
+    ensures { (r : Rules) (lines : List (List ℕ)) (xs : List (Step × Answer)) (m : Machine) → Runs r (machine_of lines) xs m → IsSound r m }
+{}
+
+/// Hence what is kept of the foreground's lines is accurate behind every run.
 pub fn every_run_is_accurate()
     ensures { (r : Rules) (lines : List (List ℕ)) (xs : List (Step × Answer)) (m : Machine) → Runs r (machine_of lines) xs m → IsAccurate r m }
+{}
+
+/// A run keeps nothing but what stood: the foreground's text and each text on the worker's way through
+/// the waiting orders stood with the setting beside it, and each state that is stored on either side, or
+/// waits in a batch, is the opening one or the end of a line of a text that stood, tokenized from its
+/// first line. The text of a refused edit never stood.
+pub fn every_run_keeps_what_stood()
+    ensures { (r : Rules) (lines : List (List ℕ)) (xs : List (Step × Answer)) (m : Machine) → Runs r (machine_of lines) xs m → IsWithinPast r (stands_of_run lines xs) m }
 {}
 
 /// A line is accurate exactly where it stands before the front; without a front every line is.
@@ -84,4 +110,10 @@ pub fn full_tables_show_a_large_reach()
     ensures full { (r : Rules) (stands : List Stand) (t : Tables) (made : TableEntries) (n few : ℕ) → IsNumbering t → IsWithinReach r stands t → few < t.limit → LacksEntry n made t → ReachesMoreThan few r stands }
     ensures front { (k : Tokenizing) (budget : ℕ) (lines : List (List ℕ)) (es : List (Entry (List FrameData))) (i : ℕ) → AreRight k budget opening lines es → front es ≡ Some i → start_at opening es i ≡ Some (state_from_scratch k lines i) }
     ensures grown { (r : Rules) (stands : List Stand) (s : Stand) (old new : Tables) → Contains stands s → GrowsByLines (r.setting s.epoch) s.lines old new → IsWithinReach r stands old → IsWithinReach r stands new }
+{}
+
+/// A change of a settled text, followed at once by a settle that is not blocked, does exactly its work:
+/// the new lines, and the later lines before which the state from scratch is another one than it was.
+pub fn work_is_exact()
+    ensures { (r : Rules) (d : Document) (c : Change) (n : ℕ) (after : Document) → HasRightEntries r d → is_settled d.entries ≡ true → IsIn d.lines c → RunsTo r (edited d c) (length (edited d c).lines - 1) n None after → n ≡ work (r.setting d.epoch) d.lines c }
 {}
