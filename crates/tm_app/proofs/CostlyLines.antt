@@ -10,18 +10,24 @@ use Rattle.tm_forms.specs.declared.script.ScriptStep.{ScriptStep}
 use Rattle.tm_forms.specs.declared.script.ScriptStep.TheVariants.{Core, SettleQuietly, Show}
 use Rattle.tm_forms.specs.declared.script.Scripted.{Scripted}
 use Rattle.tm_machine.specs.declared.entries.Entry.{Entry}
-use Rattle.tm_machine.specs.Machine.{Rules, Machine, Answer, Edited, Lined, Forced, Steps, Turns, Forces, machine_of}
+use Rattle.tm_machine.specs.Documents.{Rules, Answer, Edited, Lined, Forced, HasRightEntries}
+use Rattle.tm_machine.specs.Machine.{Machine, ForeSteps, machine_of, seen}
+use Rattle.tm_machine.specs.Turns.{Turns, Forces}
 use Rattle.tm_machine.specs.Reach.{stand_in, stands_of}
 use Rattle.tm_machine.specs.Scratch.{state_from_scratch}
 use Rattle.tm_machine.proofs.BlockedFronts.{front-costs, forces-blocked}
 use Rattle.tm_machine.proofs.ReachedTables.{front-start, stands-first}
-use Rattle.tm_machine.proofs.RightRuns.{Right, right-step, right-new}
-use Rattle.tm_app.specs.Play.{Prints, Plays, machine_steps}
+use Rattle.tm_machine.proofs.RightRuns.{right-new, right-step}
+use Rattle.tm_machine.proofs.SoundSteps.{text-follows}
+use Rattle.tm_app.specs.Play.{Prints, Plays, Acts, machine_steps}
 use Rattle.tm_app.specs.Printed.{tells_from, tells_blocked, answer_text, quiet_text, turn_text, work_text, blocked_text}
 use Rattle.tm_app.specs.Stands.{Tells}
 use Rattle.tm_app.specs.Stops.{HasCostlyLine}
 use Rattle.tm_app.proofs.PlayRuns.{step-first}
 use Rattle.tm_app.proofs.Tells.{nothing-tells, both-tell, turn-tells, work-tells, blocked-tells, shown-tells}
+
+abbrev Right : Rules → Machine → Type 0
+Right r m = HasRightEntries r (seen m.fore)
 
 module _ (r : Rules) where
   -- line i of the machine's text costs more than the budget
@@ -56,15 +62,15 @@ module _ (r : Rules) where
   forced-costs m count None after h f e = absurd cc
   forced-costs m count (Some i) after h f e = (i, (forces-blocked (r.setting m.fore.epoch) r.budget m.fore.text.lines (length m.fore.text.lines - 1) m.fore.entries count i after h f).costs)
 
-  answer-told : (m n : Machine) (s : Step) (a : Answer) → Right r m → Steps r m s a n → Told m (answer_text a)
+  answer-told : (m n : Machine) (s : Step) (a : Answer) → Right r m → Acts r m s a n → Told m (answer_text a)
   answer-told m n (step.Edit c) (Edited version) h d = (false, nothing-tells, λ e. absurd cc)
-  answer-told m n step.Line (Lined turn) h d = turn-told m turn d.0 h d.1
+  answer-told m n step.Line (Lined turn) h d = turn-told m turn d.1.0 h d.1.1
   answer-told m n step.Settle (Forced done blocked) h d =
-      (is_some blocked, both-tell (work_text done) (blocked_text blocked) false (is_some blocked) (work-tells done) (blocked-tells blocked), forced-costs m done blocked d.0 h d.1)
+      (is_some blocked, both-tell (work_text done) (blocked_text blocked) false (is_some blocked) (work-tells done) (blocked-tells blocked), forced-costs m done blocked d.1.0 h d.1.1)
   answer-told m n _ _ h d = absurd d
 
-  quiet-told : (m n : Machine) (a : Answer) → Right r m → Steps r m step.Settle a n → Told m (quiet_text a)
-  quiet-told m n (Forced done blocked) h d = (is_some blocked, blocked-tells blocked, forced-costs m done blocked d.0 h d.1)
+  quiet-told : (m n : Machine) (a : Answer) → Right r m → Acts r m step.Settle a n → Told m (quiet_text a)
+  quiet-told m n (Forced done blocked) h d = (is_some blocked, blocked-tells blocked, forced-costs m done blocked d.1.0 h d.1.1)
   quiet-told m n _ h d = absurd d
 
   prints-told : (m n : Machine) (s : ScriptStep) (bytes : List ℕ) → Right r m → Prints r m s bytes n → Told m bytes
@@ -72,9 +78,20 @@ module _ (r : Rules) where
   prints-told m n SettleQuietly bytes h p = told-as m (quiet_text p.0) bytes p.2 (quiet-told m n p.0 h p.1)
   prints-told m n Show bytes h p = told-as m _ bytes p.1 (false, shown-tells m.fore.entries, λ e. absurd cc)
 
+  fore-right : (m n : Machine) (s : Step) (a : Answer) → Right r m → ForeSteps r m s a n → Right r n
+  fore-right m n s a h d =
+      let P : Machine → Type 0 = λ z. Right r z in
+      subst P (sym d.2) (subst (HasRightEntries r) (sym (text-follows r m.fore s a d.0 d.1)) (right-step r (seen m.fore) s a d.0 h d.1))
+
+  acts-right : (m n : Machine) (s : Step) (a : Answer) → Right r m → Acts r m s a n → Right r n
+  acts-right m n (step.Edit c) (Edited version) h d = fore-right m n (step.Edit c) (Edited version) h d
+  acts-right m n step.Line (Lined turn) h d = fore-right m n step.Line (Lined turn) h d
+  acts-right m n step.Settle (Forced done blocked) h d = fore-right m n step.Settle (Forced done blocked) h d
+  acts-right m n _ _ h d = absurd d
+
   prints-right : (m n : Machine) (s : ScriptStep) (bytes : List ℕ) → Right r m → Prints r m s bytes n → Right r n
-  prints-right m n (Core s) bytes h p = right-step r m s p.0 n h p.1
-  prints-right m n SettleQuietly bytes h p = right-step r m step.Settle p.0 n h p.1
+  prints-right m n (Core s) bytes h p = acts-right m n s p.0 h p.1
+  prints-right m n SettleQuietly bytes h p = acts-right m n step.Settle p.0 h p.1
   prints-right m n Show bytes h p = let P : Machine → Type 0 = λ z. Right r z in subst P (sym p.0) h
 
   -- what steps print tells of a blocked line only where a line of a text that stood costs more

@@ -8,14 +8,16 @@ use Rattle.tm_defs.specs.declared.events.Step.TheVariants as step
 use Rattle.tm_forms.specs.declared.script.ScriptStep.{ScriptStep}
 use Rattle.tm_forms.specs.declared.script.ScriptStep.TheVariants.{Core, SettleQuietly, Show}
 use Rattle.tm_forms.specs.declared.script.Scripted.{Scripted}
-use Rattle.tm_machine.specs.Machine.{Rules, Machine, Answer, Edited, Lined, Forced, Steps}
+use Rattle.tm_machine.specs.Changes.{changed}
+use Rattle.tm_machine.specs.Documents.{Rules, Document, Answer, Edited, Lined, Forced}
+use Rattle.tm_machine.specs.Machine.{Machine, with_births}
 use Rattle.tm_machine.specs.Reach.{Stand, stand_in, stand_after, stands_of}
 use Rattle.tm_machine.proofs.ReachedTables.{reaches-more, stands-first, stands-later, stands-more}
 use Rattle.tm_outside.specs.Causes.{Takes, TakesFront}
 use Rattle.tm_outside.proofs.Taken.{takes-trans, takes-as}
 use Rattle.tm_app.specs.declared.play.Fault.{Fault}
 use Rattle.tm_app.specs.declared.play.Fault.TheVariants.{SinkFault, OutOfMemory, TableFull, BadPlace}
-use Rattle.tm_app.specs.Play.{Prints, Plays, step_of, machine_steps}
+use Rattle.tm_app.specs.Play.{Prints, Plays, Acts, step_of, machine_steps}
 use Rattle.tm_app.specs.Stops.{large_reach, IsWriteStop, WritesStep, StepStops, WritesSome, StopsBefore, PlayStops}
 
 -- what was taken, and then a front of the next piece
@@ -59,10 +61,10 @@ past-next m xs i d h s there =
     subst P (sym (ap machine_steps more ∙ steps-append (take i xs) (get_or xs i d ∷ []))) (stands-more (stand_in m) (machine_steps (take i xs)) (machine_steps (get_or xs i d ∷ [])) s there)
 
 -- a step leads to what stands behind it
-step-stand : (r : Rules) (m n : Machine) (s : Step) (a : Answer) → Steps r m s a n → stand_in n ≡ stand_after (stand_in m) s
-step-stand r m n (step.Edit c) (Edited version) d = ap stand_in d.2
-step-stand r m n step.Line (Lined turn) d = ap stand_in d.2
-step-stand r m n step.Settle (Forced done blocked) d = ap stand_in d.2
+step-stand : (r : Rules) (m n : Machine) (s : Step) (a : Answer) → Acts r m s a n → stand_in n ≡ stand_after (stand_in m) s
+step-stand r m n (step.Edit c) (Edited version) d = ap stand_in d.2 ∙ ap (λ (z : Document). stand_in (record m { fore = with_births (changed m.fore.text c) z })) d.1.2
+step-stand r m n step.Line (Lined turn) d = ap stand_in d.2 ∙ ap (λ (z : Document). stand_in (record m { fore = with_births m.fore.text z })) d.1.2
+step-stand r m n step.Settle (Forced done blocked) d = ap stand_in d.2 ∙ ap (λ (z : Document). stand_in (record m { fore = with_births m.fore.text z })) d.1.2
 step-stand r m n _ _ d = absurd d
 
 -- what stood behind a step, and then the steps behind it

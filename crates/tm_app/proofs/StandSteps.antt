@@ -1,6 +1,6 @@
 -- A step of the model is a step of each machine that it stands for.
 use Rattle.std.specs.Prelude.{Contains}
-use Rattle.std.proofs.Common.{◌≡◌, ℕ, suc, ◌<◌, arith, inl, inr, List, [], ◌∷◌, ◌++◌, ◌-◌, map, replicate, length, Option, Some, None, refl, ap, sym, ◌∙◌, subst, subst₂}
+use Rattle.std.proofs.Common.{◌≡◌, ℕ, suc, ◌<◌, arith, inl, inr, List, [], ◌∷◌, ◌++◌, ◌-◌, map, length, Option, Some, refl, ap, sym, ◌∙◌, subst, subst₂}
 use Rattle.tm_defs.specs.declared.changes.Change.{Change}
 use Rattle.tm_defs.specs.declared.events.Step.TheVariants as step
 use Rattle.tm_defs.specs.declared.events.Turn.{Turn}
@@ -11,49 +11,49 @@ use Rattle.tm_forms.specs.declared.script.ScriptStep.{ScriptStep}
 use Rattle.tm_forms.specs.declared.script.ScriptStep.TheVariants.{Core, SettleQuietly, Show}
 use Rattle.tm_forms.specs.declared.script.Scripted.{Scripted}
 use Rattle.tm_machine.specs.declared.entries.Entry.{Entry}
-use Rattle.tm_machine.specs.Changes.{lines_changed, effect_of}
-use Rattle.tm_machine.specs.Entries.{blank, replaced, AreAccurate}
-use Rattle.tm_machine.specs.Machine.{Rules, Machine, Edited, Lined, Forced, Turns, Forces, Steps, edited, machine_of}
+use Rattle.tm_machine.specs.Changes.{changed, lines_changed, effect_of}
+use Rattle.tm_machine.specs.Entries.{replaced, AreAccurate}
+use Rattle.tm_machine.specs.Documents.{Rules, Document, CanEdit, Edited, Lined, Forced, edited, last_version, with_entries}
+use Rattle.tm_machine.specs.Machine.{Machine, ChangeOrder, machine_of, seen, with_births}
+use Rattle.tm_machine.specs.Turns.{Turns, Forces}
 use Rattle.tm_machine.specs.Places.{IsIn, bad_place}
 use Rattle.tm_machine.specs.Settings.{rules_of}
+use Rattle.tm_machine.specs.Sizes.{Fits}
 use Rattle.tm_machine.proofs.PlaceTests.{bad_place-some}
 use Rattle.tm_defs.specs.declared.tables.TableFault.TheVariants.{TableFull}
 use Rattle.tm_machine.specs.Entries.{AreRight}
-use Rattle.tm_machine.specs.Machine.{IsReady, opening}
+use Rattle.tm_machine.specs.Turns.{IsReady, opening}
 use Rattle.tm_machine.specs.Reach.{Stand, stand_in, GrowsByLines, IsWithinReach, ReachesMoreThan}
 use Rattle.tm_machine.specs.Scratch.{Tokenizing}
 use Rattle.tm_machine.proofs.ReachedTables.{within-new, within-more, within-grown, within-lines, full-reaches}
-use Rattle.tm_model.specs.Held.{Held, held_rules, setting_now, changed_model, new_model, GrowsAtFront, IsTurnCause}
-use Rattle.tm_app.specs.Play.{Prints}
+use Rattle.tm_model.specs.Held.{Held, document, held_rules, setting_now, changed_model, new_model}
+use Rattle.tm_machine.specs.Numbered.{GrowsAtFront, IsTurnCause}
+use Rattle.tm_app.specs.Play.{Prints, Acts}
 use Rattle.tm_app.specs.Printed.{turn_text, work_text, blocked_text, shown}
 use Rattle.tm_app.specs.Stands.{Stands, IsReached, table_limit}
 use Rattle.tm_app.specs.Stops.{IsBadEdit, large_reach}
-
--- the entries of a new model
-blank-lines : (lines : List (List ℕ)) → replicate (length lines) (blank {S = List FrameData} None) ≡ map (λ line. blank None) lines
-blank-lines [] = refl
-blank-lines (l ∷ lines) = ap (λ es. blank None ∷ es) (blank-lines lines)
 
 module _ {T P : Type 0} (plain : T → P) (tokenized : P → List FrameData → List ℕ → Tokenized) (plain_cost : P → List FrameData → List ℕ → ℕ) (entries_made : P → List FrameData → List ℕ → TableEntries) where
   abbrev S : Rules → Held T → Machine → Type 0
   S r held m = Stands plain tokenized plain_cost entries_made r held m
 
   pub new-stands : (settings : List T) (budget limit : ℕ) (lines : List (List ℕ)) → S (rules_of tokenized plain_cost entries_made (map plain settings) budget) (new_model settings budget limit lines) (machine_of lines)
-  new-stands settings budget limit lines = record { rules = refl; lines = refl; version = refl; epoch = refl; entries = blank-lines lines }
+  new-stands settings budget limit lines = record { rules = refl; lines = refl; version = refl; epoch = refl; entries = refl }
 
   -- the turn of a model
   pub line-prints : (old new : Held T) (x : Scripted) (turn : Turn) (bytes : List ℕ) → x.step ≡ Core step.Line → new ≡ record old { entries = new.entries; tables = new.tables } →
       Turns (setting_now plain tokenized plain_cost entries_made old) old.budget old.lines old.entries turn new.entries → bytes ≡ turn_text turn → (r : Rules) (m : Machine) → S r old m →
       (n : Machine) × Prints r m x.step bytes n × S r new n
   line-prints old new x turn bytes is others turns text r m s =
-      let n : Machine = record { fore = record (m.fore) { entries = new.entries } } in
+      let after : Document = with_entries (seen m.fore) new.entries in
+      let n : Machine = record m { fore = with_births m.fore.text after } in
       let P : ScriptStep → Type 0 = λ z. Prints r m z bytes n in
       let Q : Rules → ℕ → List (List ℕ) → List (Entry (List FrameData)) → Type 0 = λ rules epoch lines es. Turns (rules.setting epoch) rules.budget lines es turn new.entries in
       let a : Q r old.epoch old.lines old.entries = subst (λ z. Q z old.epoch old.lines old.entries) s.rules turns in
       let b : Q r m.fore.epoch old.lines old.entries = subst (λ z. Q r z old.lines old.entries) s.epoch a in
       let c : Q r m.fore.epoch m.fore.text.lines m.fore.entries = subst₂ (λ z w. Q r m.fore.epoch z w) s.lines s.entries b in (
         n,
-        subst P (sym is) (Lined turn, (new.entries, c, refl), text),
+        subst P (sym is) (Lined turn, (after, (new.entries, c, refl), refl), text),
         record {
           rules = ap (held_rules plain tokenized plain_cost entries_made) others ∙ s.rules;
           lines = ap (λ (h : Held T). h.lines) others ∙ s.lines;
@@ -66,15 +66,16 @@ module _ {T P : Type 0} (plain : T → P) (tokenized : P → List FrameData → 
   -- the settle of a model
   settle-stands : (old new : Held T) (done : ℕ) (blocked : Option ℕ) → new ≡ record old { entries = new.entries; tables = new.tables } →
       Forces (setting_now plain tokenized plain_cost entries_made old) old.budget old.lines (length old.lines - 1) old.entries done blocked new.entries → (r : Rules) (m : Machine) → S r old m →
-      (n : Machine) × Steps r m step.Settle (Forced done blocked) n × S r new n
+      (n : Machine) × Acts r m step.Settle (Forced done blocked) n × S r new n
   settle-stands old new done blocked others forces r m s =
-      let n : Machine = record { fore = record (m.fore) { entries = new.entries } } in
+      let after : Document = with_entries (seen m.fore) new.entries in
+      let n : Machine = record m { fore = with_births m.fore.text after } in
       let Q : Rules → ℕ → List (List ℕ) → List (Entry (List FrameData)) → Type 0 = λ rules epoch lines es. Forces (rules.setting epoch) rules.budget lines (length lines - 1) es done blocked new.entries in
       let a : Q r old.epoch old.lines old.entries = subst (λ z. Q z old.epoch old.lines old.entries) s.rules forces in
       let b : Q r m.fore.epoch old.lines old.entries = subst (λ z. Q r z old.lines old.entries) s.epoch a in
       let c : Q r m.fore.epoch m.fore.text.lines m.fore.entries = subst₂ (λ z w. Q r m.fore.epoch z w) s.lines s.entries b in (
         n,
-        (new.entries, c, refl),
+        (after, (new.entries, c, refl), refl),
         record {
           rules = ap (held_rules plain tokenized plain_cost entries_made) others ∙ s.rules;
           lines = ap (λ (h : Held T). h.lines) others ∙ s.lines;
@@ -101,13 +102,19 @@ module _ {T P : Type 0} (plain : T → P) (tokenized : P → List FrameData → 
       (so.0, subst P (sym is) (Forced done blocked, so.1, refl), so.2)
 
   -- the change of a model
-  pub edit-prints : (old new : Held T) (x : Scripted) (c : Change) → x.step ≡ Core (step.Edit c) → IsIn old.lines c → new ≡ changed_model old c → (r : Rules) (m : Machine) → S r old m → (n : Machine) × Prints r m x.step [] n × S r new n
-  edit-prints old new x c is within same r m s =
-      let n : Machine = record m { fore = edited m.fore c } in
+  pub edit-prints : (old new : Held T) (x : Scripted) (c : Change) → x.step ≡ Core (step.Edit c) → CanEdit (document old) c → new ≡ changed_model old c → (r : Rules) (m : Machine) → S r old m → (n : Machine) × Prints r m x.step [] n × S r new n
+  edit-prints old new x c is can same r m s =
+      let after : Document = edited (seen m.fore) c in
+      let n : Machine = record m { fore = with_births (changed m.fore.text c) after; orders = m.orders ++ ChangeOrder (suc m.fore.text.version) c ∷ [] } in
       let P : ScriptStep → Type 0 = λ z. Prints r m z [] n in
-      let within_m : IsIn m.fore.text.lines c = subst (λ z. IsIn z c) s.lines within in (
+      let Below : ℕ → Type 0 = λ v. v < last_version in
+      let can_m : CanEdit (seen m.fore) c = record {
+        below_last = subst Below s.version can.below_last;
+        within = subst (λ z. IsIn z c) s.lines can.within;
+        fits = subst (λ z. Fits (lines_changed z c)) s.lines can.fits;
+      } in (
         n,
-        subst P (sym is) (Edited (suc m.fore.text.version), (within_m, refl, refl), refl),
+        subst P (sym is) (Edited (suc m.fore.text.version), (after, (can_m, refl, refl), refl), refl),
         record {
           rules = ap (held_rules plain tokenized plain_cost entries_made) same ∙ s.rules;
           lines = ap (λ (h : Held T). h.lines) same ∙ ap (λ z. lines_changed z c) s.lines;

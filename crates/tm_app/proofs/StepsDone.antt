@@ -11,11 +11,13 @@ use Rattle.tm_defs.specs.Tokenizer.{Tokenized}
 use Rattle.tm_forms.specs.declared.script.ScriptStep.TheVariants.{Core, SettleQuietly, Show}
 use Rattle.tm_forms.specs.declared.script.Scripted.{Scripted}
 use Rattle.tm_machine.specs.Entries.{AreRight, AreAccurate}
-use Rattle.tm_machine.specs.Machine.{Rules, Machine, Turns, Forces, opening}
-use Rattle.tm_machine.specs.Places.{IsIn}
+use Rattle.tm_machine.specs.Documents.{Rules, CanEdit}
+use Rattle.tm_machine.specs.Machine.{Machine}
+use Rattle.tm_machine.specs.Turns.{Turns, Forces, opening}
 use Rattle.tm_machine.specs.Reach.{GrowsByLines}
 use Rattle.tm_machine.specs.Scratch.{Tokenizing}
-use Rattle.tm_model.specs.Held.{Held, setting_now, changed_model, GrowsAtFront, IsTurnCause}
+use Rattle.tm_model.specs.Held.{Held, document, setting_now, changed_model}
+use Rattle.tm_machine.specs.Numbered.{GrowsAtFront, IsTurnCause}
 use Rattle.tm_outside.specs.Causes.{Takes, TakesFront}
 use Rattle.tm_app.specs.declared.play.Fault.{Fault}
 use Rattle.tm_app.specs.declared.play.Fault.TheVariants.{TableFull}
@@ -81,9 +83,9 @@ module _ {T P : Type 0} (plain : T → P) (tokenized : P → List FrameData → 
     settle-full n f g num grows cause = λ r m past s there reached.
         (full-reached plain tokenized plain_cost entries_made old right r m past s there new new.entries n num (lines-reached plain tokenized plain_cost entries_made old right r m past s there new grows reached) cause, takes-none a)
 
-  pub edit-done : (old new : Held T) (x : Scripted) (c : Change) (a : Option (List ℕ)) → x.step ≡ Core (step.Edit c) → IsIn old.lines c → new ≡ changed_model old c → StepDone plain tokenized plain_cost entries_made old x new a a false
-  edit-done old new x c a is within same = λ r m past s there reached.
-      let did = edit-prints plain tokenized plain_cost entries_made old new x c is within same r m s in
+  pub edit-done : (old new : Held T) (x : Scripted) (c : Change) (a : Option (List ℕ)) → x.step ≡ Core (step.Edit c) → CanEdit (document old) c → new ≡ changed_model old c → StepDone plain tokenized plain_cost entries_made old x new a a false
+  edit-done old new x c a is can same = λ r m past s there reached.
+      let did = edit-prints plain tokenized plain_cost entries_made old new x c is can same r m s in
       ([], did.0, did.1, did.2, edit-reached plain tokenized plain_cost entries_made old new c same r past reached, takes-none a, nothing-tells)
 
   pub show-done : (held : Held T) (x : Scripted) (a b : Option (List ℕ)) → x.step ≡ Show → AreAccurate (Now held) held.lines held.entries → Takes a b (shown held.entries) → StepDone plain tokenized plain_cost entries_made held x held a b false

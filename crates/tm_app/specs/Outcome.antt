@@ -4,7 +4,8 @@ use Rattle.tm_forms.specs.declared.script.Scripted.{Scripted}
 use Rattle.tm_line.specs.Setting.{Setting}
 use Rattle.tm_line.specs.Tokenizing.{rules_tokenized, rules_cost, rules_made}
 use Rattle.tm_machine.specs.Changes.{lines_of}
-use Rattle.tm_machine.specs.Machine.{Rules, Machine, machine_of}
+use Rattle.tm_machine.specs.Documents.{Rules}
+use Rattle.tm_machine.specs.Machine.{Machine, machine_of}
 use Rattle.tm_machine.specs.Reach.{stand_in, stands_of}
 use Rattle.tm_machine.specs.Settings.{rules_of}
 use Rattle.tm_outside.specs.Causes.{Takes, TakesFront}

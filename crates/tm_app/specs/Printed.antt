@@ -6,7 +6,7 @@ use Rattle.tm_defs.specs.declared.frames.FrameData.{FrameData}
 use Rattle.tm_defs.specs.declared.tokens.Token.{Token}
 use Rattle.tm_machine.specs.declared.entries.Entry.{Entry}
 use Rattle.tm_machine.specs.Entries.{is_accurate}
-use Rattle.tm_machine.specs.Machine.{Answer, Edited, Lined, Forced}
+use Rattle.tm_machine.specs.Documents.{Answer, Edited, Lined, Forced}
 use Rattle.tm_app.specs.Hex.{eight_digits}
 
 -- a line that costs more than the budget
@@ -39,12 +39,12 @@ abbrev pub answer_text : Answer → List ℕ
 answer_text (Edited version) = []
 answer_text (Lined turn) = turn_text turn
 answer_text (Forced done blocked) = work_text done ++ blocked_text blocked
+answer_text _ = []
 
 -- the same where only a blocked line is told
 abbrev pub quiet_text : Answer → List ℕ
-quiet_text (Edited version) = []
-quiet_text (Lined turn) = []
 quiet_text (Forced done blocked) = blocked_text blocked
+quiet_text _ = []
 
 -- whether a line begins with `!`; the flag says that a line begins here
 unfoldable pub tells_from : Bool → List ℕ → Bool

@@ -4,7 +4,8 @@ use Rattle.tm_defs.specs.declared.frames.FrameData.{FrameData}
 use Rattle.tm_defs.specs.Tables.{TableEntries}
 use Rattle.tm_defs.specs.Tokenizer.{Tokenized}
 use Rattle.tm_forms.specs.declared.script.Scripted.{Scripted}
-use Rattle.tm_machine.specs.Machine.{Rules, Machine}
+use Rattle.tm_machine.specs.Documents.{Rules}
+use Rattle.tm_machine.specs.Machine.{Machine}
 use Rattle.tm_machine.specs.Reach.{Stand, stand_in, IsWithinReach}
 use Rattle.tm_model.specs.Held.{Held, held_rules}
 use Rattle.tm_outside.specs.Causes.{Takes}

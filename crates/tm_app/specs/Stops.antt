@@ -4,7 +4,8 @@ use Rattle.tm_defs.specs.declared.changes.Change.{Change}
 use Rattle.tm_defs.specs.declared.events.Step.TheVariants.{Edit}
 use Rattle.tm_forms.specs.declared.script.ScriptStep.TheVariants.{Core}
 use Rattle.tm_forms.specs.declared.script.Scripted.{Scripted}
-use Rattle.tm_machine.specs.Machine.{Rules, Machine}
+use Rattle.tm_machine.specs.Documents.{Rules}
+use Rattle.tm_machine.specs.Machine.{Machine}
 use Rattle.tm_machine.specs.Places.{IsIn}
 use Rattle.tm_machine.specs.Reach.{Stand, stand_in, stands_of, ReachesMoreThan}
 use Rattle.tm_machine.specs.Scratch.{state_from_scratch}

@@ -1,6 +1,5 @@
 //! The top call.
-ghost use Rattle.std.specs.Prelude.{◌≡◌, ◌≢◌, ◌≤◌, ◌<◌, ◌^◌, ◌-◌, map, All, length, vec_len, option_map, string_bytes, IfOk, IfErr, IsTrue};
-ghost use Rattle.std.specs.Arc.{arc_value};
+ghost use Rattle.std.specs.Prelude.{◌≡◌, ◌≢◌, ◌≤◌, ◌<◌, map, length, option_map, string_bytes, IfOk, IfErr, IsTrue};
 ghost use Rattle.std.specs.List.{list_all};
 ghost use Rattle.tm_app.specs.Command.{lint_words, run_words};
 ghost use Rattle.tm_app.specs.Complete.{IsGood, Completes};
@@ -16,16 +15,15 @@ use crate::status::{Status, What};
 use crate::{command, lint, play, report, setup, status};
 use std::alloc::Global;
 use std::marker::Brand;
-use std::sync::Arc;
 use std::sync::ledger::{Blank, Ledger};
 use tm_defs::steps::Steps;
-use tm_defs::texts::Line;
 use tm_forms::script::Scripted;
 use tm_line::tokenizer::Setting;
-use tm_model::lines;
 use tm_model::model::Model;
 use tm_outside::files::Files;
 use tm_outside::sink::Sink;
+use tm_text::faults::TextFault;
+use tm_text::text::{Text, from_characters};
 
 /// Entries of one kind that a table of states holds at most.
 const TABLE_LIMIT: u32 = 16_777_216;
@@ -37,7 +35,7 @@ fn counted<S: Sink, L: Ledger>(
     blank: Blank,
     settings: &[Setting],
     budget: u64,
-    lines: Vec<Arc<Line>>,
+    text: Text,
     script: &[Scripted],
     out: &mut S,
 ) -> Result<bool, Fault>
@@ -45,15 +43,12 @@ fn counted<S: Sink, L: Ledger>(
     requires parts { blank.parts ≡ L.parts }
     requires some { 0 < blank.parts }
     requires settings { 0 < length settings.now }
-    requires lines { 0 < vec_len lines }
-    requires count { vec_len lines < 2 ^ 31 }
-    requires short { All (λ line. length line < 2 ^ 31 - 1) (map arc_value lines.items) }
     requires built { IsTrue (list_all is_built script.now) }
-    ensures ok { IfOk result (LinesPlay settings.now budget (map arc_value lines.items) script.now (S.taken out.old) (S.taken out.new)) }
-    ensures err { IfErr result (LinesStop settings.now budget (map arc_value lines.items) script.now (S.taken out.old) (S.taken out.new) (S.faults out.old) (S.faults out.new)) }
+    ensures ok { IfOk result (LinesPlay settings.now budget text.lines script.now (S.taken out.old) (S.taken out.new)) }
+    ensures err { IfErr result (LinesStop settings.now budget text.lines script.now (S.taken out.old) (S.taken out.new) (S.faults out.old) (S.faults out.new)) }
 {
     let mut steps = Steps::<L>::new(blank);
-    match Model::new(alloc, settings, budget, TABLE_LIMIT, lines) {
+    match Model::new(alloc, settings, budget, TABLE_LIMIT, text) {
         Ok(mut model) => play::play(alloc, &mut model, script, out, &mut steps),
         Err(_) => Err(Fault::OutOfMemory),
     }
@@ -71,15 +66,18 @@ fn play_setup<S: Sink>(alloc: Global, setup: Setup, out: &mut S) -> Result<bool,
         text,
         script,
     } = setup;
-    let Ok(lines) = lines::split(alloc, text.as_slice()) else {
-        return Err(Fault::OutOfMemory);
+    let text = match from_characters(alloc, text.as_slice()) {
+        Ok(text) => text,
+        Err(TextFault::OutOfMemory) => return Err(Fault::OutOfMemory),
+        Err(TextFault::NotUtf8(_)) => unreachable!(),
+        Err(TextFault::TextFull(_)) => unreachable!(),
     };
     counted::<S, Brand>(
         alloc,
         Blank::new(1),
         settings.as_slice(),
         budget,
-        lines,
+        text,
         script.as_slice(),
         out,
     )

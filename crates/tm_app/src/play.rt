@@ -62,6 +62,7 @@ fn show<T: LineTok, S: Sink>(alloc: Global, model: &Model<'_, T>, out: &mut S) -
     ensures err { IfErr result (IsWriteStop (TakesFront (S.taken out.old) (S.taken out.new) (shown model.now.entries)) (S.faults out.old) (S.faults out.new)) }
     ensures never_falls { S.faults out.old ≤ S.faults out.new }
 {
+    model.sound();
     let front = model.front();
     for i in 0..model.len() {
         let accurate = stands_before(front, i);
@@ -217,7 +218,7 @@ fn do_edit<T: LineTok>(
     match model.change(change) {
         Ok(_) => Ok(false),
         Err(ChangeFault::BadPlace(_)) => Err(Fault::BadPlace(step.line)),
-        Err(ChangeFault::TextFull(_)) => unreachable!(),
+        Err(ChangeFault::TextFull(_)) => Err(Fault::OutOfMemory),
         Err(ChangeFault::VersionFull(_)) => Err(Fault::OutOfMemory),
         Err(ChangeFault::OutOfMemory) => Err(Fault::OutOfMemory),
     }

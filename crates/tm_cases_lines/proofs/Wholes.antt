@@ -4,7 +4,8 @@ use Rattle.std.proofs.lemmas.List.{take-append-drop}
 use Rattle.tm_defs.specs.declared.events.Step.{Step}
 use Rattle.tm_forms.specs.declared.script.Scripted.{Scripted}
 use Rattle.tm_machine.specs.Changes.{lines_of}
-use Rattle.tm_machine.specs.Machine.{Rules, Machine, machine_of}
+use Rattle.tm_machine.specs.Documents.{Rules}
+use Rattle.tm_machine.specs.Machine.{Machine, machine_of}
 use Rattle.tm_machine.specs.Reach.{stand_in, stands_of, ReachesMoreThan}
 use Rattle.tm_machine.proofs.ReachedTables.{reaches-more, stands-more}
 use Rattle.tm_app.specs.Complete.{Completes}

@@ -2,7 +2,8 @@
 use Rattle.std.specs.Prelude.{◌≡◌, ℕ, List, Option, Some, false, take, slice_get, ⊤}
 use Rattle.tm_forms.specs.declared.script.Scripted.{Scripted}
 use Rattle.tm_machine.specs.Changes.{lines_of}
-use Rattle.tm_machine.specs.Machine.{Rules, Machine, machine_of}
+use Rattle.tm_machine.specs.Documents.{Rules}
+use Rattle.tm_machine.specs.Machine.{Machine, machine_of}
 use Rattle.tm_machine.specs.Reach.{stand_in, stands_of, ReachesMoreThan}
 use Rattle.tm_app.specs.Outcome.{WorkDone, grammar_rules}
 use Rattle.tm_app.specs.Play.{Plays, machine_steps}

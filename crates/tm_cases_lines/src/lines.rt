@@ -19,9 +19,11 @@ use tm_grammar::grammar::RawGrammar;
 use tm_line::tokenizer::{Parts, Setting};
 use tm_line_run::painter::{Painted, tokens_of};
 use tm_meta::metadata::{TokenType, base_metadata, decided};
-use tm_model::lines::LENGTH_BOUND;
-use tm_model::numbering::Numbering;
 use tm_rules::grammars::Grammars;
+use tm_state::states::StateTable;
+
+/// A line has fewer characters.
+const LENGTH_BOUND: usize = 0x7fff_ffff;
 
 /// A setting of this one grammar.
 fn setting_of(alloc: Global, grammar: &Value) -> Result<Setting, CaseFault> {
@@ -62,7 +64,7 @@ fn line_of<L: Ledger>(
     requires some { 0 < blank.parts }
     requires limit { 0 < limit }
 {
-    let mut table = Numbering::new(alloc, limit);
+    let mut table = StateTable::new(alloc, limit)?;
     let mut steps: Steps<L> = Steps::new(blank);
     if line.as_slice().len() >= LENGTH_BOUND {
         return Err(CaseFault::NoField);

@@ -28,8 +28,6 @@ fn answer(rt: HostRuntime, alloc: Global, line: &str) -> Result<String, CaseFaul
         "runs" => lines::runs(alloc, &case)?,
         "type" => lines::type_of(alloc, &case)?,
         "model" => models::model(alloc, &case)?,
-        "split" => models::split_text(alloc, &case)?,
-        "numbers" => models::numbers(alloc, &case)?,
         "reads" => outside::reads(alloc, &case)?,
         "writes" => outside::writes(alloc, &case)?,
         "copy" => outside::copies(alloc, &case)?,

@@ -1,8 +1,8 @@
-//! Models of small texts by the small tokenizer, lines, and numberings.
+//! Models of small texts by the small tokenizer.
 ghost use Rattle.std.specs.Prelude.{◌≡◌, ◌<◌, length};
 
 use crate::callers::first_is_done;
-use crate::small::{FRAME, Small};
+use crate::small::Small;
 use crate::values::{characters, joined, list, name, small, small_at, text};
 use serde_json::Value;
 use std::alloc::Global;
@@ -11,14 +11,12 @@ use std::sync::ledger::{Blank, Ledger};
 use tm_cases::{Case, CaseFault};
 use tm_defs::changes::{Change, ChangeFault, Place};
 use tm_defs::events::Turn;
-use tm_defs::frames::{Frame, ScopeList, StateId};
+use tm_defs::frames::StateId;
 use tm_defs::steps::Steps;
-use tm_defs::tables::{States, TableFault};
-use tm_defs::texts::Name;
+use tm_defs::tables::TableFault;
 use tm_defs::tokenizer::LineTok;
-use tm_model::lines::{LINES_BOUND, are_short, split};
 use tm_model::model::{Forced, Model};
-use tm_model::numbering::Numbering;
+use tm_text::text::from_characters;
 
 /// A model of a small text.
 fn small_model<'a>(
@@ -31,13 +29,10 @@ fn small_model<'a>(
     requires settings { 0 < length settings.now }
     requires limit { 0 < limit }
 {
-    let Ok(lines) = split(alloc, text) else {
+    let Ok(text) = from_characters(alloc, text) else {
         return Err(CaseFault::OutOfMemory);
     };
-    if lines.is_empty() || lines.len() >= LINES_BOUND || !are_short(lines.as_slice()) {
-        return Err(CaseFault::NoField);
-    }
-    match Model::new(alloc, settings, budget, limit, lines) {
+    match Model::new(alloc, settings, budget, limit, text) {
         Ok(model) => Ok(model),
         Err(_) => Err(CaseFault::OutOfMemory),
     }
@@ -190,6 +185,11 @@ fn word_act<T: LineTok, L: Ledger>(
             let answer = forced_text(alloc, model.settle(steps))?;
             with_front(alloc, model, answer.as_str())
         }
+        "setting" => {
+            model.sound();
+            model.setting(model.epoch());
+            with_front(alloc, model, "set")
+        }
         "first" => {
             let done = first_is_done(model, steps);
             Ok(String::from_str(alloc, if done { "line 0 is from scratch" } else { "-" })?)
@@ -210,6 +210,14 @@ fn act<T: LineTok, L: Ledger>(
 ) -> Result<String, CaseFault> {
     if let Some(word) = act.as_str() {
         return word_act(alloc, model, word, steps);
+    }
+    if let Some(line) = act.get("force") {
+        let line = small(line)?;
+        if line >= model.len() {
+            return Err(CaseFault::NoField);
+        }
+        let answer = forced_text(alloc, model.force(line, steps))?;
+        return with_front(alloc, model, answer.as_str());
     }
     let Some(edit) = act.as_array() else {
         return look(alloc, model, act);
@@ -247,8 +255,9 @@ fn acts<L: Ledger>(
 }
 
 /// `model TEXT, BUDGET, LIMIT, ACTS`: the answer of each act on a model of the text by the small tokenizer, whose
-/// budget is in steps a line and whose tables hold up to the limit. The acts are `"line"`, `"settle"`, `"version"`,
-/// edits as `[LINE, COLUMN, LINE, COLUMN, TEXT]`, and looks at a line as `{"entry": LINE}`.
+/// budget is in steps a line and whose tables hold up to the limit. The acts are `"line"`, `"settle"`,
+/// `{"force": LINE}`, `"setting"` (its own once more), `"version"`, edits as `[LINE, COLUMN, LINE, COLUMN, TEXT]`, and
+/// looks at a line as `{"entry": LINE}`.
 pub fn model(alloc: Global, case: &Case) -> Result<String, CaseFault> {
     let text = characters(alloc, case.text(0)?)?;
     let limit = small(case.value(2)?)?;
@@ -264,88 +273,4 @@ pub fn model(alloc: Global, case: &Case) -> Result<String, CaseFault> {
         limit,
         all,
     )
-}
-
-/// `split TEXT`: its lines, each in brackets.
-pub fn split_text(alloc: Global, case: &Case) -> Result<String, CaseFault> {
-    let text = characters(alloc, case.text(0)?)?;
-    let Ok(lines) = split(alloc, text.as_slice()) else {
-        return Err(CaseFault::OutOfMemory);
-    };
-    let mut told = String::new(alloc);
-    for line in &lines {
-        let line = joined(alloc, line.as_slice())?;
-        told.push_str(format!(in alloc; "[{line}]")?.as_str())?;
-    }
-    Ok(told)
-}
-
-/// The numbers of a list with this name alone, and of a state with that list, and what they are made of.
-fn made_of(alloc: Global, table: &mut Numbering, name: &Name) -> Result<String, CaseFault> {
-    let id = match table.text(name) {
-        Ok(id) => id,
-        Err(fault) => return full_text(alloc, fault),
-    };
-    table.known();
-    let same = if table.text_of(id).same(name) {
-        "the text"
-    } else {
-        "another text"
-    };
-    let names = match table.push(ScopeList(0), id) {
-        Ok(names) => names,
-        Err(fault) => return full_text(alloc, fault),
-    };
-    let last = match table.last(names) {
-        Some((text, rest)) => format!(in alloc; "{} on {}", text.0, rest.0)?,
-        None => String::from_str(alloc, "empty")?,
-    };
-    let frame = Frame { names, ..FRAME };
-    let state = match table.intern(frame, StateId(0)) {
-        Ok(state) => state,
-        Err(fault) => return full_text(alloc, fault),
-    };
-    let top = match table.top(state) {
-        Some((top, rest)) => {
-            let same = if top == frame {
-                "the frame"
-            } else {
-                "another frame"
-            };
-            format!(in alloc; "{same} on {}", rest.0)?
-        }
-        None => String::from_str(alloc, "empty")?,
-    };
-    let below = if table.top(StateId(0)).is_none() {
-        "empty"
-    } else {
-        "not empty"
-    };
-    Ok(format!(in alloc;
-        "{same}, list {} is {last}, state {} is {top}, state 0 is {below}",
-        names.0, state.0
-    )?)
-}
-
-/// `numbers LIMIT, TEXTS`: the number of each text in tables that hold up to the limit, and then, of the first text,
-/// the numbers of a list and a state and what they are made of.
-pub fn numbers(alloc: Global, case: &Case) -> Result<String, CaseFault> {
-    let limit = small(case.value(0)?)?;
-    if limit == 0 {
-        return Err(CaseFault::NoField);
-    }
-    let mut table = Numbering::new(alloc, limit);
-    let texts = list(case.value(1)?)?;
-    let mut told = String::new(alloc);
-    for one in texts {
-        let answer = match table.text(&name(alloc, text(one)?)?) {
-            Ok(id) => id.0.to_string(alloc)?,
-            Err(fault) => full_text(alloc, fault)?,
-        };
-        told.push_str(answer.as_str())?;
-        told.push_str("; ")?;
-    }
-    let first = name(alloc, text(texts.first().ok_or(CaseFault::NoField)?)?)?;
-    told.push_str(made_of(alloc, &mut table, &first)?.as_str())?;
-    Ok(told)
 }

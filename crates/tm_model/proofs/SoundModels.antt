@@ -1,63 +1,100 @@
--- What every model keeps: at the start, and where its readers look.
-use Rattle.std.proofs.Common.{◌≡◌, ℕ, ◌<◌, ◌^◌, ◌-◌, List, [], ◌∷◌, length, None, refl, ap, sym, arith, ◌∙◌, subst, replicate, true}
-use Rattle.std.specs.Prelude.{map, All}
+-- What every model keeps: at the start, in a turn, and where its readers look.
+use Rattle.std.proofs.Common.{◌≡◌, ℕ, ◌<◌, ◌≤◌, List, [], ◌∷◌, length, replicate, Some, None, Result, ap, sym, arith, ◌∙◌, subst, true}
+use Rattle.std.specs.Prelude.{slice_get, IfOk, IfErr, OnErr, ◌≢◌, All}
+use Rattle.std.specs.Option.{option_map}
 use Rattle.std.proofs.lemmas.List.{length-replicate}
+use Rattle.std.proofs.lemmas.Option.{slice_get-map, slice_get_within, get_or_from_slice_get}
+use Rattle.tm_defs.specs.declared.events.Turn.{Turn}
 use Rattle.tm_defs.specs.declared.frames.FrameData.{FrameData}
-use Rattle.tm_defs.specs.declared.frames.StateId.{StateId}
+use Rattle.tm_defs.specs.declared.tables.TableFault.{TableFault}
 use Rattle.tm_defs.specs.Tables.{Tables, TableEntries}
 use Rattle.tm_defs.specs.Tokenizer.{Tokenized}
 use Rattle.tm_machine.specs.declared.entries.Entry.{Entry}
-use Rattle.tm_machine.specs.Entries.{blank, is_accurate, AreRight, AreAccurate, IsFromScratch}
-use Rattle.tm_machine.specs.Machine.{opening}
+use Rattle.tm_machine.specs.Entries.{blank, front, is_accurate, start_at, AreAccurate, IsFromScratch}
+use Rattle.tm_machine.specs.Numbered.{GrowsAtFront, IsTurnCause}
 use Rattle.tm_machine.specs.Scratch.{Tokenizing}
-use Rattle.tm_machine.proofs.EntrySteps.{AreRight-blank, AreAccurate-right}
-use Rattle.tm_model.specs.Held.{Held, held_of, new_model, IsSound, setting_now, with_state, AreKnown}
-use Rattle.tm_model.proofs.KnownEnds.{replicate-known}
-use Rattle.tm_model.proofs.StateReads.{replicate-map}
+use Rattle.tm_machine.specs.Settings.{tokenizing_of}
+use Rattle.tm_machine.specs.Turns.{Turns, opening}
+use Rattle.tm_machine.proofs.EntrySteps.{AreRight-blank, AreAccurate-right, length-right}
+use Rattle.tm_machine.proofs.ReachedTables.{front-start}
+use Rattle.tm_machine.proofs.ReadyTurns.{right-after}
+use Rattle.tm_model.specs.Held.{Held, held_of, new_model, IsSound, setting_now}
+use Rattle.tm_model.specs.Kept.{Kept}
 
-replicate-is : {S : Type 0} (lines : List (List ℕ)) → map (λ (line : List ℕ). blank {S = S} None) lines ≡ replicate (length lines) (blank None)
-replicate-is [] = refl
-replicate-is (line ∷ lines) = ap (λ es. blank None ∷ es) (replicate-is lines)
+pub short-line : (n : ℕ) (lines : List (List ℕ)) (i : ℕ) (line : List ℕ) → All (λ x. length x ≤ n) lines → slice_get lines i ≡ Some line → length line ≤ n
+short-line n lines i line all at =
+    let P : List ℕ → Type 0 = λ x. length x ≤ n in
+    subst P (get_or_from_slice_get lines i line line at) (all i line (slice_get_within lines i line at))
 
-blank-right : (k : Tokenizing) (budget : ℕ) (lines : List (List ℕ)) (es : List (Entry (List FrameData))) → es ≡ replicate (length lines) (blank None) → AreRight k budget opening lines es
-blank-right k budget lines es is =
-    let P : List (Entry (List FrameData)) → Type 0 = λ xs. AreRight k budget opening lines xs in
-    subst P (replicate-is lines ∙ sym is) (AreRight-blank k budget opening lines)
+-- a new model
+pub new-is : {T : Type 0} (settings : List T) (budget limit n : ℕ) (lines : List (List ℕ)) (kept : Kept) → n ≡ length lines →
+    kept ≡ record { entries = replicate n (blank None); tables = record { texts = []; paths = [] ∷ []; states = [] ∷ []; limit = limit } } → held_of settings 0 0 budget lines kept ≡ new_model settings budget limit lines
+new-is settings budget limit n lines kept e k =
+    ap (held_of settings 0 0 budget lines) k
+    ∙ ap (λ m. held_of settings 0 0 budget lines (record { entries = replicate m (blank None); tables = record { texts = []; paths = [] ∷ []; states = [] ∷ []; limit = limit } })) e
 
 module _ {T P : Type 0} (plain : T → P) (tokenized : P → List FrameData → List ℕ → Tokenized) (plain_cost : P → List FrameData → List ℕ → ℕ) (entries_made : P → List FrameData → List ℕ → TableEntries) where
   abbrev now_by : Held T → Tokenizing
   now_by held = setting_now plain tokenized plain_cost entries_made held
 
-  -- blank entries are sound, whatever the table holds
-  pub sound-blank : (settings : List T) (budget count : ℕ) (lines : List (List ℕ)) (tables : Tables) (n : ℕ) (es : List (Entry StateId)) →
-      n ≡ length lines → es ≡ replicate n (blank None) → 0 < length settings → 0 < length lines → length lines < 2 ^ 31 → All (λ line. length line < 2 ^ 31 - 1) lines →
-      IsSound plain tokenized plain_cost entries_made (held_of settings 0 0 budget lines es tables) × AreKnown count es
-  sound-blank settings budget count lines tables n es e f h k m o =
-      let same : map (with_state tables) es ≡ replicate (length lines) (blank None) = ap (map (with_state tables)) f ∙ replicate-map tables n ∙ ap (λ m. replicate m (blank None)) e in
-      let Known : List (Entry StateId) → Type 0 = λ xs. AreKnown count xs in (
-        record {
-          epoch = h;
-          some_line = k;
-          count = m;
-          lengths = ap length same ∙ length-replicate (length lines) (blank None);
-          short = o;
-          version = omega arith;
-          right = blank-right (now_by (held_of settings 0 0 budget lines es tables)) budget lines (map (with_state tables) es) same;
-        },
-        subst Known (sym f) (replicate-known count n),
-      )
+  -- a new model
+  pub sound-new : (settings : List T) (budget limit : ℕ) (lines : List (List ℕ)) → 0 < length settings → IsSound plain tokenized plain_cost entries_made (new_model settings budget limit lines)
+  sound-new settings budget limit lines some = record {
+    epoch = some;
+    lengths = length-replicate (length lines) (blank None);
+    version = omega arith;
+    right = AreRight-blank (now_by (new_model settings budget limit lines)) budget opening lines;
+  }
 
-  -- the accuracy of a model
-  pub accurate-sound : (held : Held T) → IsSound plain tokenized plain_cost entries_made held → AreAccurate (now_by held) held.lines held.entries
-  accurate-sound held sound = AreAccurate-right (now_by held) held.budget held.lines held.entries sound.right
+  -- the setting of the epoch
+  pub setting-is : (held : Held T) (setting : T) → slice_get held.settings held.epoch ≡ Some setting → tokenizing_of tokenized plain_cost entries_made (Some (plain setting)) ≡ now_by held
+  setting-is held setting by = ap (tokenizing_of tokenized plain_cost entries_made) (sym (slice_get-map plain held.settings held.epoch ∙ ap (option_map plain) by))
 
-  pub scratch-sound : (held : Held T) (i : ℕ) → IsSound plain tokenized plain_cost entries_made held → i < length held.entries → is_accurate held.entries i ≡ true → IsFromScratch (now_by held) held.lines held.entries i
-  scratch-sound held i sound h good = (accurate-sound held sound).accurate i (omega (arith, sound.lengths)) good
+  module _ (held : Held T) (sound : IsSound plain tokenized plain_cost entries_made held) where
+    -- the accuracy of a model
+    pub accurate-sound : AreAccurate (now_by held) held.lines held.entries
+    accurate-sound = AreAccurate-right (now_by held) held.budget held.lines held.entries sound.right
 
-pub new-blank : {T : Type 0} (settings : List T) (budget limit : ℕ) (lines : List (List ℕ)) (tables : Tables) (n : ℕ) (es : List (Entry StateId)) →
-    n ≡ length lines → es ≡ replicate n (blank None) → tables ≡ record { texts = []; paths = [] ∷ []; states = [] ∷ []; limit = limit } →
-    held_of settings 0 0 budget lines es tables ≡ new_model settings budget limit lines
-new-blank settings budget limit lines tables n es e f t =
-    let made : List (Entry (List FrameData)) → Tables → Held _ = λ x y. record { settings = settings; epoch = 0; version = 0; budget = budget; lines = lines; entries = x; tables = y } in
-    let same : map (with_state tables) es ≡ replicate (length lines) (blank None) = ap (map (with_state tables)) f ∙ replicate-map tables n ∙ ap (λ m. replicate m (blank None)) e in
-    ap (λ x. made x tables) same ∙ ap (made (replicate (length lines) (blank None))) t
+    pub scratch-sound : (i : ℕ) → i < length held.lines → is_accurate held.entries i ≡ true → IsFromScratch (now_by held) held.lines held.entries i
+    scratch-sound i h good = accurate-sound.accurate i h good
+
+    -- before the front there is a state
+    pub front-begins : (i : ℕ) → front held.entries ≡ Some i → start_at opening held.entries i ≢ None
+    front-begins i at none = let there = front-start (now_by held) held.budget held.lines held.entries i sound.right at in cc
+
+    -- a turn
+    pub turned-sound : (r : Result Turn TableFault) (after : List (Entry (List FrameData))) (tables : Tables) → IfOk r (λ turn. Turns (now_by held) held.budget held.lines held.entries turn after) → OnErr r (after ≡ held.entries) →
+        IsSound plain tokenized plain_cost entries_made (record held { entries = after; tables = tables })
+    turned-sound r after tables ok err =
+        let right = right-after (now_by held) held.budget held.lines held.entries after r sound.right ok err in
+        record { epoch = sound.epoch; lengths = length-right (now_by held) held.budget opening held.lines after right; version = sound.version; right = right }
+
+  -- a turn of what is kept is a turn of the model
+  module _ (settings : List T) (epoch version budget : ℕ) (lines : List (List ℕ)) (kept after : Kept) (now : Held T) (is : held_of settings epoch version budget lines kept ≡ now) (setting : T) (by : slice_get settings epoch ≡ Some setting)
+      (i : ℕ) (line : List ℕ) (holds : slice_get lines i ≡ Some line) (r : Result Turn TableFault) where
+    abbrev By : Tokenizing
+    By = tokenizing_of tokenized plain_cost entries_made (Some (plain setting))
+
+    by-is : By ≡ now_by (held_of settings epoch version budget lines kept)
+    by-is = setting-is (held_of settings epoch version budget lines kept) setting by
+
+    turned-here : ((ls : List (List ℕ)) → slice_get ls i ≡ Some line → IfOk r (λ turn. Turns By budget ls kept.entries turn after.entries)) →
+        IfOk r (λ turn. Turns (now_by (held_of settings epoch version budget lines kept)) budget lines kept.entries turn after.entries)
+    turned-here h = let Q : Tokenizing → Type 0 = λ k. IfOk r (λ turn. Turns k budget lines kept.entries turn after.entries) in subst Q by-is (h lines holds)
+
+    pub turned-now : ((ls : List (List ℕ)) → slice_get ls i ≡ Some line → IfOk r (λ turn. Turns By budget ls kept.entries turn after.entries)) → IfOk r (λ turn. Turns (now_by now) now.budget now.lines now.entries turn after.entries)
+    turned-now h = subst (λ (x : Held T). IfOk r (λ turn. Turns (now_by x) x.budget x.lines x.entries turn after.entries)) is (turned-here h)
+
+    pub grown-now : ((ls : List (List ℕ)) → slice_get ls i ≡ Some line → GrowsAtFront By ls kept.entries kept.tables after.tables) → GrowsAtFront (now_by now) now.lines now.entries now.tables after.tables
+    grown-now h =
+        let Q : Tokenizing → Type 0 = λ k. GrowsAtFront k lines kept.entries kept.tables after.tables in
+        subst (λ (x : Held T). GrowsAtFront (now_by x) x.lines x.entries x.tables after.tables) is (subst Q by-is (h lines holds))
+
+    pub caused-now : ((ls : List (List ℕ)) → slice_get ls i ≡ Some line → IfErr r (IsTurnCause By ls kept.entries after.tables)) → IfErr r (IsTurnCause (now_by now) now.lines now.entries after.tables)
+    caused-now h =
+        let Q : Tokenizing → Type 0 = λ k. IfErr r (IsTurnCause k lines kept.entries after.tables) in
+        subst (λ (x : Held T). IfErr r (IsTurnCause (now_by x) x.lines x.entries after.tables)) is (subst Q by-is (h lines holds))
+
+    pub sound-now : IsSound plain tokenized plain_cost entries_made (held_of settings epoch version budget lines kept) → ((ls : List (List ℕ)) → slice_get ls i ≡ Some line → IfOk r (λ turn. Turns By budget ls kept.entries turn after.entries)) →
+        OnErr r (after.entries ≡ kept.entries) → IsSound plain tokenized plain_cost entries_made (held_of settings epoch version budget lines after)
+    sound-now sound ok err = turned-sound (held_of settings epoch version budget lines kept) sound r after.entries after.tables (turned-here ok) err

@@ -1,4 +1,2 @@
 pub mod Held
-pub mod Lines
-pub mod Numbers
-pub mod Turns
+pub mod Kept

@@ -1,7 +1,6 @@
 //! Models may cross threads.
 
 use crate::model::{Forced, Model};
-use crate::numbering::{FrameLink, NameLink, Numbering};
 use tm_defs::tokenizer::LineTok;
 
 fn crosses<T: Send + Sync>() {}
@@ -10,11 +9,4 @@ fn crosses<T: Send + Sync>() {}
 pub fn model_crosses<'a, T: LineTok + Send + Sync + 'a>() {
     crosses::<Model<'a, T>>();
     crosses::<Forced>();
-}
-
-/// Numberings may cross and be shared between threads.
-pub fn numbering_crosses() {
-    crosses::<Numbering>();
-    crosses::<NameLink>();
-    crosses::<FrameLink>();
 }

@@ -1,5 +1,5 @@
 -- What a contract sees of a text and of a planned change, and why bytes or a change are refused.
-use Rattle.std.specs.Prelude.{◌≡◌, ℕ, ◌+◌, ◌-◌, ◌<◌, ◌≤◌, List, [], ◌∷◌, length, Some, All, ⊤}
+use Rattle.std.specs.Prelude.{◌≡◌, ℕ, ◌<◌, ◌≤◌, List, length, Some, All, ⊤}
 use Rattle.std.specs.Str.{IsUtf8, IsValidUpTo, chars}
 use Rattle.tm_defs.specs.declared.changes.Change.{Change}
 use Rattle.tm_defs.specs.declared.changes.ChangeFault.{ChangeFault}
@@ -7,6 +7,7 @@ use Rattle.tm_defs.specs.declared.changes.ChangeFault.TheVariants as change
 use Rattle.tm_defs.specs.declared.changes.LineEffect.{LineEffect}
 use Rattle.tm_machine.specs.Changes.{HaveNoBreak, lines_of, lines_changed}
 use Rattle.tm_machine.specs.Places.{IsIn, bad_place}
+pub use Rattle.tm_machine.specs.Sizes.{size_of_lines, characters_of}
 use Rattle.tm_text.specs.declared.faults.TextFault.{TextFault}
 use Rattle.tm_text.specs.declared.faults.TextFault.TheVariants as fault
 
@@ -19,15 +20,6 @@ pub record TextLines : Type 0 where
 pub record Planned : Type 0 where
   pub effect : LineEffect
   pub lines : List (List ℕ)
-
--- the characters of lines, and a line break behind each
-abbrev pub size_of_lines : List (List ℕ) → ℕ
-size_of_lines [] = 0
-size_of_lines (line ∷ lines) = length line + 1 + size_of_lines lines
-
--- the characters of a text, each line break counted as one: behind the last line there is none
-abbrev pub characters_of : List (List ℕ) → ℕ
-characters_of lines = size_of_lines lines - 1
 
 -- what each text is: lines without a line break in them, one at least, and no more characters than there may be
 pub record IsText (lines : List (List ℕ)) : Type 0 where

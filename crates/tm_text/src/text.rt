@@ -102,8 +102,9 @@ fn characters_of_str(alloc: Global, text: &str) -> Result<Vec<char>, OutOfMemory
     Ok(text.chars().collect(alloc)?)
 }
 
-/// The text of characters.
-fn from_characters(alloc: Global, characters: &[char]) -> Result<Text, TextFault>
+/// The text of characters, split as `Text::from_bytes` splits it. `TextFull` comes exactly where there are more than a
+/// text may have.
+pub fn from_characters(alloc: Global, characters: &[char]) -> Result<Text, TextFault>
     ensures ok { IfOk result (λ t. (t.lines ≡ lines_of characters.now) × (characters_of t.lines ≤ 16777216)) }
     ensures fault { (n : ℕ) → result ≡ Err (TextFull n) → (n ≡ characters_of (lines_of characters.now)) × (16777216 < n) }
     ensures not_bytes { (n : ℕ) → result ≡ Err (NotUtf8 n) → ⊥ }

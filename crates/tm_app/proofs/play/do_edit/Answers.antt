@@ -4,7 +4,7 @@ use Rattle.tm_app.proofs.StepsDone.{edit-done}
 use Rattle.tm_app.proofs.play.do_edit.Goals as goal
 
 pub returns-in-Ok-clause-ok : goal.returns-in-Ok-clause-ok
-returns-in-Ok-clause-ok g c = λ before. edit-done g.T.LineTok.plain g.T.LineTok.tokenized g.T.LineTok.plain_cost g.T.LineTok.entries_made c.args.model.now c.change.new.self c.args.step.now c.args.change.now before c.requires c.in-Ok.ensures.ok.0 c.in-Ok.ensures.ok.2
+returns-in-Ok-clause-ok g c = λ before. edit-done g.T.LineTok.plain g.T.LineTok.tokenized g.T.LineTok.plain_cost g.T.LineTok.entries_made c.args.model.now c.change.new.self c.args.step.now c.args.change.now before c.requires c.in-Ok.ensures.can c.in-Ok.ensures.ok
 
 pub returns-in-Err-BadPlace-clause-err : goal.returns-in-Err-BadPlace-clause-err
 returns-in-Err-BadPlace-clause-err g c = λ before faults r m past s there reached.

@@ -1,5 +1,6 @@
 use Rattle.std.proofs.Common.{◌≤◌, List, [], ◌∷◌, ℕ, take}
-use Rattle.tm_machine.specs.Machine.{Rules, Machine}
+use Rattle.tm_machine.specs.Documents.{Rules}
+use Rattle.tm_machine.specs.Machine.{Machine}
 use Rattle.tm_machine.specs.Reach.{stand_in}
 use Rattle.tm_outside.specs.Causes.{Takes}
 use Rattle.tm_app.specs.Play.{Plays}

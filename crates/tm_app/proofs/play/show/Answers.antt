@@ -1,4 +1,6 @@
-use Rattle.std.proofs.Common.{arith, ◌∙◌, ap, ◌++◌, drop, ◌+◌}
+use Rattle.std.proofs.Common.{arith, ◌≤◌, ◌∙◌, ap, sym, subst, ◌++◌, drop, length, ◌+◌, append-nil}
+use Rattle.std.proofs.lemmas.List.{drop_all}
+use Rattle.tm_outside.specs.Causes.{Takes}
 use Rattle.tm_outside.proofs.Taken.{takes-trans}
 use Rattle.tm_app.specs.Printed.{line_text, shown_from}
 use Rattle.tm_app.proofs.ShownLines.{shown-next, shown-parts, show-stops, before-front}
@@ -24,3 +26,12 @@ loop-i-preserved g c =
           (c.as_str.ensures.value ∙ c.in-Ok.ensures ∙ ap (λ b. line_text b c.loop-i.i c.entry.result.now.tokens) (before-front all c.front-front.result c.loop-i.i c.stands_before-accurate.result c.front-front.ensures c.stands_before-accurate.ensures)) inv.rest;
       never_falls = omega (arith, inv.never_falls, c.write_line.ensures.never_falls);
     }
+
+pub returns-clause-ok : goal.returns-clause-ok
+returns-clause-ok g c =
+    let all = c.args.model.now.entries in
+    let inv = c.loop-i.invariant in
+    let beside = c.sound.ensures.accurate.beside in
+    let past : length all ≤ c.loop-i.i = omega (arith, beside, c.len-i-end.ensures, c.loop-i-test.false) in
+    subst (λ bytes. Takes (g.S.Sink.taken c.args.out.now) (g.S.Sink.taken c.loop-i.out) bytes)
+    (sym (append-nil inv.bytes) ∙ ap (λ l. inv.bytes ++ shown_from all c.loop-i.i l) (sym (drop_all c.loop-i.i all past)) ∙ inv.rest) inv.takes

@@ -1,18 +1,21 @@
-use Rattle.std.proofs.Common.{ap, sym, ◌∙◌, subst, map}
-use Rattle.std.specs.Arc.{arc_value}
-use Rattle.tm_machine.specs.Places.{IsIn, bad_place}
-use Rattle.tm_machine.proofs.PlaceTests.{bad_place-none}
+use Rattle.std.proofs.Common.{sym, ◌∙◌, subst, arith}
+use Rattle.tm_model.specs.Held.{IsSound, held_of}
+use Rattle.tm_model.proofs.ChangedModels.{plan-fits, committed-is, changed-is, changed-sound}
 use Rattle.tm_model.proofs.model.Model.change.Goals as goal
 
-pub apply-requires-clause-inside : goal.apply-requires-clause-inside
-apply-requires-clause-inside g c =
-    let none = sym (c.fault_of_places.ensures ∙ ap (λ ls. bad_place (map arc_value ls) c.args.change.now) c.as_slice.ensures.value) ∙ c.in_default.is in
-    subst (λ h. IsIn h.lines c.args.change.now) c.self.view_is (bad_place-none (map arc_value c.self.inside.lines.items) c.args.change.now none)
+pub replace-requires-clause-within : goal.replace-requires-clause-within
+replace-requires-clause-within g c = (plan-fits c.self.inside.text.lines c.self.inside.kept.entries c.args.change.now c.effect.result (c.effect.ensures ∙ c.in_ok-plan.ensures.ok.0) c.self.invariant.lengths c.in_ok-plan.ensures.places c.in_ok-plan.ensures.fits).0
 
-pub returns-clause-ok : goal.returns-clause-ok
-returns-clause-ok g c =
-    let none = sym (c.fault_of_places.ensures ∙ ap (λ ls. bad_place (map arc_value ls) c.args.change.now) c.as_slice.ensures.value) ∙ c.in_default.is in (
-      subst (λ h. IsIn h.lines c.args.change.now) c.self.view_is (bad_place-none (map arc_value c.self.inside.lines.items) c.args.change.now none),
-      ap (λ h. h.version) (c.self-2.view_is ∙ c.in-Ok.ensures.ok),
-      c.in-Ok.ensures.ok,
-    )
+pub replace-requires-clause-old : goal.replace-requires-clause-old
+replace-requires-clause-old g c = (plan-fits c.self.inside.text.lines c.self.inside.kept.entries c.args.change.now c.effect.result (c.effect.ensures ∙ c.in_ok-plan.ensures.ok.0) c.self.invariant.lengths c.in_ok-plan.ensures.places c.in_ok-plan.ensures.fits).1
+
+pub replace-requires-clause-new : goal.replace-requires-clause-new
+replace-requires-clause-new g c = (plan-fits c.self.inside.text.lines c.self.inside.kept.entries c.args.change.now c.effect.result (c.effect.ensures ∙ c.in_ok-plan.ensures.ok.0) c.self.invariant.lengths c.in_ok-plan.ensures.places c.in_ok-plan.ensures.fits).2
+
+pub replace-requires-clause-small : goal.replace-requires-clause-small
+replace-requires-clause-small g c = (plan-fits c.self.inside.text.lines c.self.inside.kept.entries c.args.change.now c.effect.result (c.effect.ensures ∙ c.in_ok-plan.ensures.ok.0) c.self.invariant.lengths c.in_ok-plan.ensures.places c.in_ok-plan.ensures.fits).3
+
+pub invariant_of-self-2 : goal.invariant_of-self-2
+invariant_of-self-2 g c =
+    subst (λ h. IsSound g.T.LineTok.plain g.T.LineTok.tokenized g.T.LineTok.plain_cost g.T.LineTok.entries_made h) (sym (changed-is c.self.inside.settings.now c.self.inside.epoch c.self.inside.version c.self.inside.budget c.self.inside.text.lines c.commit.new.self.lines c.self.inside.kept c.replace.new.self c.args.change.now c.effect.result (c.effect.ensures ∙ c.in_ok-plan.ensures.ok.0) (committed-is c.self.inside.text.lines c.plan.new.self.lines c.commit.new.self.lines c.args.change.now c.in_ok-plan.plan.effect c.in_ok-plan.plan.lines c.in_ok-plan.ensures.ok.0 c.in_ok-plan.ensures.ok.1 c.plan.ensures.lines c.commit.ensures.lines) c.in-Ok.ensures.ok))
+    (changed-sound g.T.LineTok.plain g.T.LineTok.tokenized g.T.LineTok.plain_cost g.T.LineTok.entries_made (held_of c.self.inside.settings.now c.self.inside.epoch c.self.inside.version c.self.inside.budget c.self.inside.text.lines c.self.inside.kept) c.self.invariant c.args.change.now (omega (arith, c.self.invariant.version)) c.in_ok-plan.ensures.places)

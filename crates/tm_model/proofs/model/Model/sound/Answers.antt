@@ -6,4 +6,4 @@ use Rattle.tm_model.proofs.model.Model.sound.Goals as goal
 pub returns-clause-accurate : goal.returns-clause-accurate
 returns-clause-accurate g c =
     accurate-sound g.T.LineTok.plain g.T.LineTok.tokenized g.T.LineTok.plain_cost g.T.LineTok.entries_made c.args.self.now
-    (subst (λ h. IsSound g.T.LineTok.plain g.T.LineTok.tokenized g.T.LineTok.plain_cost g.T.LineTok.entries_made h) c.self.view_is c.self.invariant.0)
+    (subst (λ h. IsSound g.T.LineTok.plain g.T.LineTok.tokenized g.T.LineTok.plain_cost g.T.LineTok.entries_made h) c.self.view_is c.self.invariant)
