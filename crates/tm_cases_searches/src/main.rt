@@ -5,6 +5,7 @@
 #![tactic(auto)]
 
 mod lines;
+mod places;
 mod scans;
 mod searches;
 mod templates;
@@ -35,6 +36,8 @@ fn answer_of(alloc: Global, case: &Case) -> Result<String, CaseFault> {
         "among" => scans::among(alloc, case),
         "readable" => scans::readable(alloc, case),
         "grow" => scans::grow(alloc, case),
+        "first" => scans::first(alloc, case),
+        "instead" => places::instead(alloc, case),
         _ => answer_of_text(alloc, case),
     }
 }

@@ -1,5 +1,6 @@
 //! Searches of several patterns at once.
-ghost use Rattle.std.specs.Prelude.{◌<◌, ◌^◌, length};
+ghost use Rattle.std.specs.Prelude.{◌≡◌, ◌<◌, ◌^◌, length, true, option_map, IfOk};
+ghost use Rattle.tm_onig_scan.specs.Winner.{earliest_winner, trees_of};
 
 use crate::lines::{groups, line, name, small};
 use serde_json::Value;
@@ -11,7 +12,7 @@ use tm_onig_scan::Scanner;
 use tm_onig_vm::fault::FindFault;
 
 /// The values of a list.
-fn list(case: &Case, place: usize) -> Result<&[Value], CaseFault> {
+pub fn list(case: &Case, place: usize) -> Result<&[Value], CaseFault> {
     match case.value(place)? {
         Value::Array(values) => Ok(values.as_slice()),
         _ => Err(CaseFault::NoField),
@@ -19,12 +20,24 @@ fn list(case: &Case, place: usize) -> Result<&[Value], CaseFault> {
 }
 
 /// The patterns of these texts.
-fn scanner_of(alloc: Global, texts: &[Value]) -> Result<Scanner, CaseFault> {
+pub fn scanner_of(alloc: Global, texts: &[Value]) -> Result<Scanner, CaseFault> {
     let mut scanner = Scanner::new(alloc);
     for text in texts {
         add(alloc, &mut scanner, text)?;
     }
     Ok(scanner)
+}
+
+/// The numbers of a list.
+pub fn numbers_of(alloc: Global, list: &Value) -> Result<Vec<u32>, CaseFault> {
+    let Value::Array(values) = list else {
+        return Err(CaseFault::NoField);
+    };
+    let mut numbers = Vec::new(alloc);
+    for number in values.as_slice() {
+        numbers.push(small(number.as_u64().ok_or(CaseFault::NoField)?)?)?;
+    }
+    Ok(numbers)
 }
 
 /// Adds the pattern of a text; `null` is a place at which nothing matches.
@@ -42,7 +55,10 @@ fn add(alloc: Global, scanner: &mut Scanner, text: &Value) -> Result<(), CaseFau
 }
 
 /// The winner with its groups.
-fn told(alloc: Global, given: Result<Option<(u32, Caps)>, FindFault>) -> Result<String, CaseFault> {
+pub fn told(
+    alloc: Global,
+    given: Result<Option<(u32, Caps)>, FindFault>,
+) -> Result<String, CaseFault> {
     match given {
         Ok(None) => Ok(format!(in alloc; "none")?),
         Ok(Some((number, caps))) => {
@@ -109,10 +125,7 @@ pub fn scan(alloc: Global, case: &Case) -> Result<String, CaseFault> {
 /// `among PATTERNS, NUMBERS, LINE, FROM, BUDGET`: the place of the winner among the numbers, and its groups.
 pub fn among(alloc: Global, case: &Case) -> Result<String, CaseFault> {
     let scanner = scanner_of(alloc, list(case, 0)?)?;
-    let mut numbers = Vec::new(alloc);
-    for number in list(case, 1)? {
-        numbers.push(small(number.as_u64().ok_or(CaseFault::NoField)?)?)?;
-    }
+    let numbers = numbers_of(alloc, case.value(1)?)?;
     let text = line(alloc, case.text(2)?)?;
     let from = small(case.number(3)?)?;
     let budget = case.number(4)?;
@@ -159,4 +172,34 @@ pub fn grow(alloc: Global, case: &Case) -> Result<String, CaseFault> {
         answer.push_str(&format!(in alloc; "; {word} {told}")?)?;
     }
     Ok(answer)
+}
+
+/// The number of the pattern that is found earliest from the beginning of a line.
+fn first_number(
+    alloc: Global,
+    scanner: &Scanner,
+    line: &Line,
+    budget: &mut u64,
+) -> Result<Option<u32>, FindFault>
+    requires { length line.now < 2 ^ 31 }
+    ensures { IfOk result (λ number. number ≡ option_map (λ winner. winner.0) (earliest_winner line.now 0 true true (trees_of scanner.now))) }
+{
+    match scanner.next(alloc, line, 0, true, true, budget) {
+        Ok(Some((number, _))) => Ok(Some(number)),
+        Ok(None) => Ok(None),
+        Err(fault) => Err(fault),
+    }
+}
+
+/// `first PATTERNS, LINE, BUDGET`: the number of the pattern that is found earliest from the line's beginning.
+pub fn first(alloc: Global, case: &Case) -> Result<String, CaseFault> {
+    let scanner = scanner_of(alloc, list(case, 0)?)?;
+    let text = line(alloc, case.text(1)?)?;
+    let mut budget = case.number(2)?;
+    match first_number(alloc, &scanner, &text, &mut budget) {
+        Ok(None) => Ok(format!(in alloc; "none")?),
+        Ok(Some(number)) => Ok(format!(in alloc; "{number}")?),
+        Err(FindFault::Budget) => Ok(format!(in alloc; "over the budget")?),
+        Err(FindFault::OutOfMemory) => Err(CaseFault::OutOfMemory),
+    }
 }

@@ -32,7 +32,7 @@ start_of-whole start hit = go hit.caps
 
 module _ (line : List ℕ) (from : ℕ) (allow_a allow_g : Bool) where
   -- the start of a first match stands in its groups
-  start_of-least : (t : Tree) (caps : Caps) → (least : IsLeast t line from allow_a allow_g caps) → start_of caps ≡ least.start
+  pub start_of-least : (t : Tree) (caps : Caps) → (least : IsLeast t line from allow_a allow_g caps) → start_of caps ≡ least.start
   start_of-least t caps least =
       ap start_of least.groups
       ∙ start_of-whole least.start least.hit

@@ -1,6 +1,7 @@
 -- To try the patterns of a row does what it does to try them all.
-use Rattle.std.proofs.Common.{◌≡◌, ℕ, zero, suc, ◌+◌, ◌<◌, ◌≤◌, Bool, true, false, List, [], ◌∷◌, ◌++◌, length, Some, None, Option, ◌⊎◌, inl, inr, refl, ap, sym, ◌∙◌, subst, arith, drop, nat_lt, cond, length-append}
-use Rattle.std.specs.Prelude.{slice_get, option_map}
+use Rattle.std.proofs.Common.{◌≡◌, ℕ, zero, suc, ◌+◌, ◌<◌, ◌≤◌, Bool, true, false, List, [], ◌∷◌, ◌++◌, length, Some, None, Option, ◌⊎◌, inl, inr, refl, ap, sym, ◌∙◌, subst, arith, take, drop, get_or, nat_lt, cond, length-append}
+use Rattle.std.specs.Prelude.{slice_get, slice_set, option_map, ◌==◌}
+use Rattle.std.proofs.lemmas.Bool.{lt-ltb, le-ltb, eq-eqb, ne_eqb}
 use Rattle.std.proofs.lemmas.Bool.Decides.{nat_tests}
 use Rattle.std.proofs.Math.ListN.{drop_of_length-le}
 use Rattle.std.proofs.lemmas.List.{append_assoc, append-nil}
@@ -12,9 +13,9 @@ use Rattle.tm_onig_search.specs.Starts.{Sits}
 use Rattle.tm_onig_vm.specs.First.{next_class}
 use Rattle.tm_onig_scan.specs.declared.candidates.Row.{Row}
 use Rattle.tm_onig_scan.specs.Winner.{pattern_at, patterns_at}
-use Rattle.tm_onig_scan.specs.Pass.{Pass, pass_or, pass_or_at, pass_one, pass_here, pass_row}
-use Rattle.tm_onig_scan.proofs.Tried.{tree_step}
-use Rattle.tm_onig_scan.specs.Rows.{NeverStartsIf, IsRow, places_of, row_at, Keeps, AreKeptRows}
+use Rattle.tm_onig_scan.specs.Pass.{Pass, no_pass, pass_or, pass_or_at, pass_one, pass_here, pass_row, pass_around}
+use Rattle.tm_onig_scan.proofs.Tried.{IsPart, tree_step}
+use Rattle.tm_onig_scan.specs.Rows.{NeverStartsIf, IsRow, places_before, places_from, places_without, places_of, row_at, Keeps, AreKeptRows}
 
 pub pattern_of_place : (ps : List (Option Tree)) (ns : List ℕ) (place number : ℕ) → slice_get ns place ≡ Some number → pattern_at (patterns_at ps ns) place ≡ pattern_at ps number
 pattern_of_place ps [] place number is = absurd cc
@@ -26,11 +27,6 @@ no_place ps [] place is = refl
 no_place ps (n ∷ ns) zero is = absurd cc
 no_place ps (n ∷ ns) (suc place) is = no_place ps ns place is
 
--- one pass finds what the other finds, and costs no more
-pub record IsPart (a b : Pass) : Type 0 where
-  pub found : a.winner ≡ b.winner
-  pub spent : a.cost ≤ b.cost
-
 part_or : (one a b : Pass) → IsPart a b → IsPart (pass_or one a) (pass_or one b)
 part_or one a b part = go one.winner
   where
@@ -38,8 +34,21 @@ part_or one a b part = go one.winner
     go (Some w) = record { found = refl; spent = omega arith }
     go None = let spent = part.spent in record { found = part.found; spent = omega arith }
 
-part_skip : (one a b : Pass) → one.winner ≡ None → IsPart a b → IsPart a (pass_or one b)
+pub part_skip : (one a b : Pass) → one.winner ≡ None → IsPart a b → IsPart a (pass_or one b)
 part_skip one a b none part = let spent = part.spent in rw none (record { found = part.found; spent = omega arith })
+
+-- nothing, and then a pass
+part_none : (a b : Pass) → IsPart a b → IsPart (pass_or no_pass a) b
+part_none a b part = let spent = part.spent in record { found = part.found; spent = omega arith }
+
+-- three passes one after another
+part_assoc : (a b c d : Pass) → IsPart (pass_or a (pass_or b c)) d → IsPart (pass_or (pass_or a b) c) d
+part_assoc a b c d part = go a.winner b.winner part
+  where
+    go : (v w : Option _) → IsPart (pass_or_at v a.cost (pass_or_at w b.cost c)) d → IsPart (pass_or (pass_or_at v a.cost (record { winner = w; cost = b.cost })) c) d
+    go (Some x) w part = part
+    go None (Some y) part = part
+    go None None part = let spent = part.spent in record { found = part.found; spent = omega arith }
 
 module _ (s : Subject) (behind : Option Bool) (next : Option ℕ) (start : ℕ) (sits : Sits s behind start) (is : slice_get s.line start ≡ next) where
   one_never : (place : ℕ) (p : Option Tree) → NeverStartsIf p behind next → (pass_one s start place p).winner ≡ None
@@ -63,6 +72,95 @@ module _ (s : Subject) (behind : Option Bool) (next : Option ℕ) (start : ℕ) 
 
   pub row_passes : (ps : List (Option Tree)) (row : List ℕ) → IsRow behind next 0 ps row → IsPart (pass_row s start ps row) (pass_here s start 0 ps)
   row_passes ps row right = row_part ps 0 ps row (λ i. ap (pattern_at ps) (omega arith)) right
+
+  -- another pattern stands at one of the places
+  places_later : (place k : ℕ) (ps : List (Option Tree)) (row : List ℕ) → k < place → IsRow behind next place ps row → (places_before k row ≡ []) × (places_without k (places_from k row) ≡ row)
+  places_later place k [] row low at = rw at (refl, refl)
+  places_later place k (p ∷ ps) row low (later, on, which) = go which (places_later (place + 1) k ps later (omega arith) on)
+    where
+      go : (row ≡ place ∷ later) ⊎ ((row ≡ later) × NeverStartsIf p behind next) → (places_before k later ≡ []) × (places_without k (places_from k later) ≡ later) →
+          (places_before k row ≡ []) × (places_without k (places_from k row) ≡ row)
+      go (inl same) rest =
+          let not_less : nat_lt place k ≡ false = le-ltb place k (omega arith) in
+          let differs : (place == k) ≡ false = ne_eqb place k (λ same. omega arith) in
+          rw (same, not_less, differs) (refl, refl)
+      go (inr (same, never)) rest = rw same rest
+
+  around_part : (all : List (Option Tree)) (place i : ℕ) (o : Option Tree) (ps : List (Option Tree)) (row : List ℕ) → ((j : ℕ) → pattern_at all (place + j) ≡ pattern_at ps j) →
+      i < length ps → IsRow behind next place ps row → IsPart (pass_around s start all (place + i) o row) (pass_here s start place (slice_set ps i o))
+  unfolding pass_row pass_here
+  around_part all place i o [] row same low at = absurd (omega arith)
+  around_part all place zero o (p ∷ ps) row same low (later, on, which) = go which
+    where
+      e : place + 0 ≡ place
+      e = omega arith
+
+      rest : IsPart (pass_row s start all later) (pass_here s start (place + 1) ps)
+      rest = row_part all (place + 1) ps later (λ j. let f : place + suc j ≡ place + 1 + j = omega arith in sym (ap (pattern_at all) f) ∙ same (suc j)) on
+
+      ends : (row2 : List ℕ) → (places_before place row ≡ []) × (places_without place (places_from place row) ≡ later) → IsPart (pass_around s start all place o row) (pass_here s start place (o ∷ ps))
+      ends row2 (before, behind_it) = rw (before, behind_it) (part_none _ _ (part_or (pass_one s start place o) (pass_row s start all later) (pass_here s start (place + 1) ps) rest))
+
+      go : (row ≡ place ∷ later) ⊎ ((row ≡ later) × NeverStartsIf p behind next) → IsPart (pass_around s start all (place + 0) o row) (pass_here s start place (o ∷ ps))
+      go (inl is) =
+          let not_less : nat_lt place place ≡ false = le-ltb place place (omega arith) in
+          let equal : (place == place) ≡ true = eq-eqb place place refl in
+          rw e (ends row (rw (is, not_less, equal) (refl, refl)))
+      go (inr (is, never)) = rw e (ends row (rw is (places_later (place + 1) place ps later (omega arith) on)))
+  around_part all place (suc i) o (p ∷ ps) row same low (later, on, which) =
+      go which (around_part all (place + 1) i o ps later (λ j. let f : place + suc j ≡ place + 1 + j = omega arith in sym (ap (pattern_at all) f) ∙ same (suc j)) (omega arith) on)
+    where
+      k : ℕ
+      k = place + suc i
+
+      e : place + 1 + i ≡ place + suc i
+      e = omega arith
+
+      here : pattern_at all place ≡ p
+      here = let f : place + 0 ≡ place = omega arith in sym (ap (pattern_at all) f) ∙ same 0
+
+      go : (row ≡ place ∷ later) ⊎ ((row ≡ later) × NeverStartsIf p behind next) → IsPart (pass_around s start all (place + 1 + i) o later) (pass_here s start (place + 1) (slice_set ps i o)) →
+          IsPart (pass_around s start all (place + suc i) o row) (pass_or (pass_one s start place p) (pass_here s start (place + 1) (slice_set ps i o)))
+      go (inl is) part =
+          let less : nat_lt place (place + suc i) ≡ true = lt-ltb place (place + suc i) (omega arith) in
+          let on_part = subst (λ (n : ℕ). IsPart (pass_around s start all n o later) (pass_here s start (place + 1) (slice_set ps i o))) e part in
+          rw (is, less, here) (part_assoc (pass_one s start place p) _ _ _ (part_or (pass_one s start place p) _ _ on_part))
+      go (inr (is, never)) part =
+          let on_part = subst (λ (n : ℕ). IsPart (pass_around s start all n o later) (pass_here s start (place + 1) (slice_set ps i o))) e part in
+          rw is (part_skip (pass_one s start place p) _ _ (one_never place p never) on_part)
+
+  pub around_passes : (ps : List (Option Tree)) (i : ℕ) (o : Option Tree) (row : List ℕ) → i < length ps → IsRow behind next 0 ps row → IsPart (pass_around s start ps i o row) (pass_here s start 0 (slice_set ps i o))
+  around_passes ps i o row low right =
+      let e : 0 + i ≡ i = omega arith in
+      subst (λ (n : ℕ). IsPart (pass_around s start ps n o row) (pass_here s start 0 (slice_set ps i o))) e (around_part ps 0 i o ps row (λ j. ap (pattern_at ps) (omega arith)) low right)
+
+-- the places of a row up to this count are before the place
+abbrev pub AreBefore : ℕ → ℕ → List ℕ → Type 0
+AreBefore place count row = (i : ℕ) → i < count → get_or row i 0 < place
+
+pub before_more : (place count : ℕ) (row : List ℕ) → AreBefore place count row → get_or row count 0 < place → AreBefore place (count + 1) row
+before_more place count row were here i low = go (nat_lt i count) refl
+  where
+    go : (b : Bool) → nat_lt i count ≡ b → get_or row i 0 < place
+    go true is = were i (let less : i < count = grind (arith, nat_tests) in less)
+    go false is = let same : count ≡ i = grind (arith, nat_tests) in subst (λ n. get_or row n 0 < place) same here
+
+pub before_all : (place count : ℕ) (row : List ℕ) → count ≤ length row → AreBefore place count row → (count < length row → place ≤ get_or row count 0) →
+    (take count row ≡ places_before place row) × (drop count row ≡ places_from place row)
+before_all place zero [] fits were past = (refl, refl)
+before_all place (suc n) [] fits were past = absurd (omega arith)
+before_all place zero (p ∷ row) fits were past =
+    let not_less : nat_lt p place ≡ false = le-ltb p place (past (omega arith)) in rw not_less (refl, refl)
+before_all place (suc n) (p ∷ row) fits were past =
+    let less : nat_lt p place ≡ true = lt-ltb p place (were 0 (omega arith)) in
+    let on = before_all place n row (omega arith) (λ i low. were (suc i) (omega arith)) (λ low. past (omega arith)) in
+    rw less (ap (λ (l : List ℕ). p ∷ l) on.0, on.1)
+
+-- beyond a list nothing is put
+pub set_beyond : (ps : List (Option Tree)) (i : ℕ) (o : Option Tree) → length ps ≤ i → slice_set ps i o ≡ ps
+set_beyond [] i o past = refl
+set_beyond (p ∷ ps) zero o past = absurd (omega arith)
+set_beyond (p ∷ ps) (suc i) o past = ap (λ (l : List (Option Tree)). p ∷ l) (set_beyond ps i o (omega arith))
 
 pub length_at : (ps : List (Option Tree)) (ns : List ℕ) → length (patterns_at ps ns) ≡ length ns
 length_at ps [] = refl

@@ -1,6 +1,7 @@
 -- The first match of one pass is the winner, and the pass costs no more than the searches one after another.
 use Rattle.std.proofs.Common.{◌≡◌, ℕ, zero, suc, ◌+◌, ◌-◌, ◌<◌, ◌≤◌, Bool, true, false, List, [], ◌∷◌, length, Some, None, Option, refl, ap, sym, ◌∙◌, arith, nat_lt, subst, get_or, drop}
-use Rattle.std.specs.Prelude.{slice_get, MatchOption, option_map}
+use Rattle.std.specs.Prelude.{slice_get, MatchOption, option_map, Result, Ok, Err}
+use Rattle.std.proofs.lemmas.Result.{IfOk-weaker}
 use Rattle.std.proofs.Math.ListN.{drop_of_length-le}
 use Rattle.std.proofs.lemmas.Option.{none-some}
 use Rattle.std.proofs.lemmas.Bool.Decides.{nat_tests}
@@ -11,9 +12,15 @@ use Rattle.tm_onig_search.specs.Places.{Subject, subject}
 use Rattle.tm_onig_search.specs.Find.{Search, found_or, at_start, first_of, hit_at, with_whole}
 use Rattle.tm_onig_scan.specs.Winner.{trees_of, pattern_at, scan_cost, earliest_winner}
 use Rattle.tm_onig_scan.specs.WinnerLaws.{IsWinner}
-use Rattle.tm_onig_scan.specs.Pass.{Pass, pass_or, pass_or_at, pass_one, pass_here, pass_row, pass_from}
+use Rattle.tm_onig_vm.specs.declared.fault.FindFault.{FindFault}
+use Rattle.tm_onig_scan.specs.Pass.{Pass, Tries, pass_or, pass_or_at, pass_one, pass_here, pass_row, pass_from}
 use Rattle.tm_onig_scan.proofs.Earliest.{earliest}
 use Rattle.tm_onig_scan.proofs.Only.{only}
+
+-- one pass finds what the other finds, and costs no more
+pub record IsPart (a b : Pass) : Type 0 where
+  pub found : a.winner ≡ b.winner
+  pub spent : a.cost ≤ b.cost
 
 -- `rest` is what is left of a pass: nothing was found before it, and the budget fell
 pub record IsPassing (all rest : Pass) (before now : ℕ) : Type 0 where
@@ -30,7 +37,7 @@ module _ (all one later : Pass) (before now after : ℕ) (was : IsPassing all (p
       go (Some w) = omega arith
       go None = omega arith
 
-  pub passing_on : None ≡ one.winner → (after ≤ now) × (now ≤ after + one.cost) → IsPassing all later before after
+  passing_on : None ≡ one.winner → (after ≤ now) × (now ≤ after + one.cost) → IsPassing all later before after
   passing_on none paid =
       let on : IsPassing all (pass_or_at None one.cost later) before now = subst (λ w. IsPassing all (pass_or_at w one.cost later) before now) (sym none) was in
       let spent = on.spent in
@@ -39,11 +46,11 @@ module _ (all one later : Pass) (before now after : ℕ) (was : IsPassing all (p
       let most = paid.1 in
       record { found = on.found; spent = omega arith; falls = omega arith }
 
-  pub passing_won : (w : ℕ × Caps) → Some w ≡ one.winner → Some w ≡ all.winner
+  passing_won : (w : ℕ × Caps) → Some w ≡ one.winner → Some w ≡ all.winner
   passing_won w some =
       let on : IsPassing all (pass_or_at (Some w) one.cost later) before now = subst (λ x. IsPassing all (pass_or_at x one.cost later) before now) (sym some) was in on.found
 
-  pub passing_falls : (after ≤ now) × (now ≤ after + one.cost) → (after ≤ before) × (before ≤ after + all.cost)
+  passing_falls : (after ≤ now) × (now ≤ after + one.cost) → (after ≤ before) × (before ≤ after + all.cost)
   passing_falls paid =
       let more = one_cost in
       let spent = was.spent in
@@ -51,8 +58,43 @@ module _ (all one later : Pass) (before now after : ℕ) (was : IsPassing all (p
       let less = paid.0 in
       let most = paid.1 in (omega arith, omega arith)
 
-  pub passing_over : now < one.cost → before < all.cost
+  passing_over : now < one.cost → before < all.cost
   passing_over over = let more = one_cost in let spent = was.spent in omega arith
+
+  pub tries_on : (o : Option (ℕ × Caps)) → o ≡ None → Tries one now after (Ok o) → IsPassing all later before after
+  tries_on o none t = passing_on (sym none ∙ t.hit) t.falls
+
+  pub tries_won : (o : Option (ℕ × Caps)) (w : ℕ × Caps) → o ≡ Some w → Tries one now after (Ok o) → Tries all before after (Ok (Some w))
+  tries_won o w some t = record { hit = passing_won w (sym some ∙ t.hit); over = λ is. absurd cc; falls = passing_falls t.falls }
+
+  pub tries_fails : (e : FindFault) → Tries one now after (Err e) → Tries all before after (Err e)
+  tries_fails e t = record { hit = tt; over = λ is. passing_over (t.over is); falls = passing_falls t.falls }
+
+-- nothing was tried yet
+pub passing_begins : (all : Pass) (now : ℕ) → IsPassing all all now now
+passing_begins all now = record { found = refl; spent = omega arith; falls = omega arith }
+
+-- nothing is left to be tried
+pub tries_ends : (all rest : Pass) (before now : ℕ) → IsPassing all rest before now → rest.winner ≡ None → Tries all before now (Ok None)
+tries_ends all rest before now was none =
+    let spent = was.spent in record { hit = sym none ∙ was.found; over = λ is. absurd cc; falls = (was.falls, omega arith) }
+
+-- all that is left is tried
+pub tries_last : (all last : Pass) (before now after : ℕ) (r : Result (Option (ℕ × Caps)) FindFault) → IsPassing all last before now → Tries last now after r → Tries all before after r
+tries_last all last before now after r was t =
+    let spent = was.spent in
+    let falls = was.falls in
+    let less = t.falls.0 in
+    let most = t.falls.1 in
+    record { hit = IfOk-weaker r _ _ (λ won same. same ∙ was.found) t.hit; over = λ is. let over = t.over is in omega arith; falls = (omega arith, omega arith) }
+
+-- a part of the attempts finds the same
+pub tries_part : (part all : Pass) (before after : ℕ) (r : Result (Option (ℕ × Caps)) FindFault) → IsPart part all → Tries part before after r → Tries all before after r
+tries_part part all before after r is t =
+    let spent = is.spent in
+    let less = t.falls.0 in
+    let most = t.falls.1 in
+    record { hit = IfOk-weaker r _ _ (λ won same. same ∙ is.found) t.hit; over = λ over. let more = t.over over in omega arith; falls = (less, omega arith) }
 
 pub tree_step : (ts : List (Option Tree)) (n : ℕ) → n < length ts → drop n ts ≡ pattern_at ts n ∷ drop (suc n) ts
 tree_step [] n lt = absurd (omega arith)
@@ -293,3 +335,13 @@ module _ (line : List ℕ) (from : ℕ) (allow_a allow_g : Bool) where
       go : (o : Option (ℕ × Caps)) → MatchOption o (MissAll ps) (IsWinner line from allow_a allow_g ps) → o ≡ earliest_winner line from allow_a allow_g ps
       go None miss = sym (none_wins ps miss (earliest_winner line from allow_a allow_g ps) (earliest line from allow_a allow_g ps))
       go (Some w) h = sym (only line from allow_a allow_g ps w h)
+
+  -- what the searches one after another find and cost
+  abbrev pub plainly : List (Option Tree) → Pass
+  plainly ps = record { winner = earliest_winner line from allow_a allow_g ps; cost = scan_cost line from allow_a allow_g ps }
+
+  pub plain_part : (ps : List (Option Tree)) → IsPart (pass_from s (length line + 1 - from) from ps) (plainly ps)
+  plain_part ps = record { found = pass_winner ps; spent = pass_cost ps }
+
+  pub searches : (ps : List (Option Tree)) (before after : ℕ) (r : Result (Option (ℕ × Caps)) FindFault) → Tries (pass_from s (length line + 1 - from) from ps) before after r → Tries (plainly ps) before after r
+  searches ps before after r t = tries_part (pass_from s (length line + 1 - from) from ps) (plainly ps) before after r (plain_part ps) t

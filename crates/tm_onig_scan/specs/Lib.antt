@@ -2,3 +2,4 @@ pub mod Winner
 pub mod WinnerLaws
 pub mod Pass
 pub mod Rows
+pub mod Asked

@@ -1,11 +1,16 @@
 -- One pass over the starts: at each start the patterns of the list in their order, up to the first match.
-use Rattle.std.specs.Prelude.{ℕ, zero, suc, ◌+◌, List, [], ◌∷◌, Option, Some, None, option_map}
+use Rattle.std.specs.Prelude.{◌≡◌, ℕ, zero, suc, ◌+◌, ◌<◌, ◌≤◌, length, List, [], ◌∷◌, Option, Some, None, Result, IfOk, IsErrOf, option_map, slice_get}
 use Rattle.tm_onig_class.specs.Tree.{Tree}
 use Rattle.tm_onig_search.specs.Outcomes.{Caps}
 use Rattle.tm_onig_search.specs.Places.{Subject}
 use Rattle.tm_onig_search.specs.Find.{at_start, with_whole}
-use Rattle.tm_onig_scan.specs.Winner.{pattern_at, patterns_at}
-use Rattle.tm_onig_scan.specs.declared.candidates.Candidates.{Candidates}
+use Rattle.tm_onig_search.specs.Starts.{Sits}
+use Rattle.tm_onig_vm.specs.First.{next_class}
+use Rattle.tm_onig_vm.specs.declared.fault.FindFault.{FindFault}
+use Rattle.tm_onig_vm.specs.declared.fault.FindFault.TheVariants as find
+use Rattle.tm_onig_scan.specs.Winner.{pattern_at}
+use Rattle.tm_onig_scan.specs.Rows.{places_before, places_from, places_without}
+use Rattle.tm_onig_scan.specs.declared.passes.At.{At}
 
 -- the number and the groups of the first match, if there is one, and the cost of the searches made
 pub record Pass : Type 0 where
@@ -40,12 +45,24 @@ module _ (s : Subject) where
   pass_row start ps [] = no_pass
   pass_row start ps (place ∷ row) = pass_or (pass_one start place (pattern_at ps place)) (pass_row start ps row)
 
+  -- those of a row, where this pattern stands at this place
+  abbrev pub pass_around : ℕ → List (Option Tree) → ℕ → Option Tree → List ℕ → Pass
+  pass_around start ps place p row =
+      pass_or (pass_row start ps (places_before place row)) (pass_or (pass_one start place p) (pass_row start ps (places_without place (places_from place row))))
+
   -- the first n starts from this one on
   unfoldable pub pass_from : ℕ → ℕ → List (Option Tree) → Pass
   pass_from zero start ps = no_pass
   pass_from (suc n) start ps = pass_or (pass_here start 0 ps) (pass_from n (start + 1) ps)
 
--- the patterns of the candidates, or all
-abbrev pub listed_in : List (Option Tree) → Option Candidates → List (Option Tree)
-listed_in patterns None = patterns
-listed_in patterns (Some them) = patterns_at patterns them.numbers.items
+-- what a pass answers, and what it takes of the budget
+pub record Tries (pass : Pass) (before after : ℕ) (result : Result (Option (ℕ × Caps)) FindFault) : Type 0 where
+  pub hit : IfOk result (λ won. won ≡ pass.winner)
+  pub over : IsErrOf result find.Budget → before < pass.cost
+  pub falls : (after ≤ before) × (before ≤ after + pass.cost)
+
+-- a start, and what stands around it
+pub record IsAt (s : Subject) (it : At) : Type 0 where
+  pub within : it.start ≤ length s.line
+  pub behind : Sits s it.behind it.start
+  pub class : it.class ≡ next_class (slice_get s.line it.start)

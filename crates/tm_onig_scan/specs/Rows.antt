@@ -1,5 +1,5 @@
 -- Which patterns of a list may start a match, by what stands around the start.
-use Rattle.std.specs.Prelude.{◌≡◌, ℕ, ◌+◌, ◌<◌, ◌≤◌, length, Bool, true, false, List, [], ◌∷◌, Option, Some, None, ⊤, ◌⊎◌, slice_get}
+use Rattle.std.specs.Prelude.{◌≡◌, ℕ, ◌+◌, ◌<◌, ◌≤◌, length, Bool, true, false, List, [], ◌∷◌, Option, Some, None, ⊤, ◌⊎◌, ◌==◌, nat_lt, if◌then◌else◌, slice_get}
 use Rattle.tm_onig_class.specs.Tree.{Tree}
 use Rattle.tm_onig_vm.specs.First.{NeverStarts, next_class}
 use Rattle.tm_onig_scan.specs.Winner.{patterns_at}
@@ -16,6 +16,19 @@ module _ (behind : Option Bool) (next : Option ℕ) where
   abbrev pub IsRow : ℕ → List (Option Tree) → List ℕ → Type 0
   IsRow place [] row = row ≡ []
   IsRow place (p ∷ ps) row = (later : List ℕ) × IsRow (place + 1) ps later × ((row ≡ place ∷ later) ⊎ ((row ≡ later) × NeverStartsIf p behind next))
+
+-- the places of a row before this one, those from it on, and those behind it where it is the first
+abbrev pub places_before : ℕ → List ℕ → List ℕ
+places_before place [] = []
+places_before place (p ∷ row) = if nat_lt p place then p ∷ places_before place row else []
+
+abbrev pub places_from : ℕ → List ℕ → List ℕ
+places_from place [] = []
+places_from place (p ∷ row) = if nat_lt p place then places_from place row else p ∷ row
+
+abbrev pub places_without : ℕ → List ℕ → List ℕ
+places_without place [] = []
+places_without place (p ∷ row) = if p == place then row else p ∷ row
 
 -- the places of the row of this number; none where there is none
 abbrev pub places_of : Option Row → List ℕ

@@ -2,7 +2,7 @@
 use Rattle.std.specs.Prelude.{◌≡◌, ℕ, ◌+◌, List, [], ◌∷◌, map, Bool, if◌then◌else◌, Option, Some, None, option_map, nat_lt, slice_get, slice_index_or}
 use Rattle.tm_onig_class.specs.declared.patterns.Pattern.{Pattern}
 use Rattle.tm_onig_class.specs.Tree.{Tree, tree_of}
-use Rattle.tm_onig_parse.specs.Reading.{parsed}
+use Rattle.tm_onig_parse.specs.Parsed.{parsed}
 use Rattle.tm_onig_search.specs.Outcomes.{Caps}
 use Rattle.tm_onig_search.specs.Find.{first_match, search_cost}
 

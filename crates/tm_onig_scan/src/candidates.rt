@@ -4,7 +4,7 @@
 //! of what stands around a start there is a row of the patterns that may start there. A start where none may
 //! is passed over by one look.
 ghost use Rattle.std.specs.Option.{option_copied};
-ghost use Rattle.std.specs.Prelude.{◌≡◌, ◌<◌, ◌^◌, ℕ, List, Option, length, option_map, slice_get, Some, IfOk, IsFalse, IsTrue};
+ghost use Rattle.std.specs.Prelude.{◌≡◌, ◌<◌, ◌^◌, ℕ, List, Option, length, option_map, slice_get, Some, IfOk, OnOk, IsFalse, IsTrue};
 ghost use Rattle.tm_onig_class.specs.Tree.{Tree, tree_of};
 ghost use Rattle.tm_onig_vm.specs.First.{next_class};
 ghost use Rattle.tm_onig_scan.specs.Winner.{trees_of, pattern_at, patterns_at};
@@ -68,26 +68,26 @@ fn may_start(program: Option<&Prog>, behind: Option<bool>, class: u32) -> bool
     }
 }
 
-/// The places of the patterns that may start behind such a character and before one of this class.
-fn made_row(
-    alloc: Global,
+/// Fills in the places of the patterns that may start behind such a character and before one of this class.
+fn fill_row(
     programs: &[Option<Prog>],
     numbers: &[u32],
     behind: Option<bool>,
     class: u32,
-) -> Result<Row, OutOfMemory>
+    places: &mut Vec<u32>,
+) -> Result<(), OutOfMemory>
     requires few { length numbers.now < 2 ^ 32 }
-    ensures { IfOk result (λ row. (next : Option ℕ) → next_class next ≡ class →
-        IsRow behind next 0 (patterns_at (trees_of programs.now) numbers.now) row.places.items) }
+    ensures { OnOk result ((next : Option ℕ) → next_class next ≡ class →
+        IsRow behind next 0 (patterns_at (trees_of programs.now) numbers.now) places.new.items) }
 {
-    let mut places = Vec::new(alloc);
+    places.clear();
     for place in 0..numbers.len() {
         let program = program_of_place(programs, numbers, place as u32);
         if may_start(program, behind, class) {
             places.push(place as u32)?;
         }
     }
-    Ok(Row { places })
+    Ok(())
 }
 
 fn are_same(a: &[u32], b: &[u32]) -> bool
@@ -96,41 +96,50 @@ fn are_same(a: &[u32], b: &[u32]) -> bool
     a == b
 }
 
-/// Whether the row of a number is equal to this one.
-fn is_row(rows: &[Row], number: usize, row: &Row) -> bool
-    ensures { IsTrue result → (number < length rows.now) × (places_of (slice_get rows.now number) ≡ row.now.places.items) }
+/// Whether the row of a number has these places.
+fn is_row(rows: &[Row], number: usize, places: &[u32]) -> bool
+    ensures { IsTrue result → (number < length rows.now) × (places_of (slice_get rows.now number) ≡ places.now) }
 {
     match rows.get(number) {
-        Some(other) => are_same(other.places.as_slice(), row.places.as_slice()),
+        Some(row) => are_same(row.places.as_slice(), places),
         None => false,
     }
 }
 
-/// The number of a row: of one that is equal to it, or of itself behind the others.
+/// The number of a row: of the one that it is likely to be equal to, of another that it is equal to, or of itself
+/// behind the others.
 #[tactic(auto, using(crate::proofs::Rows::keeps_same, crate::proofs::Rows::keeps_more, crate::proofs::Rows::number_new))]
-fn number_of(rows: &mut Vec<Row>, row: Row) -> Result<u32, OutOfMemory>
+fn number_of(rows: &mut Vec<Row>, likely: u32, places: &Vec<u32>) -> Result<u32, OutOfMemory>
     ensures kept { Keeps rows.old.items rows.new.items }
-    ensures number { IfOk result (λ number. (number < length rows.new.items) × (places_of (slice_get rows.new.items number) ≡ row.places.items)) }
+    ensures number { IfOk result (λ number. (number < length rows.new.items) × (places_of (slice_get rows.new.items number) ≡ places.now.items)) }
 {
+    if is_row(rows.as_slice(), likely as usize, places.as_slice()) {
+        return Ok(likely);
+    }
     let count = rows.len();
     if count >= u32::MAX as usize {
         return Err(OutOfMemory);
     }
     for number in 0..count {
-        if is_row(rows.as_slice(), number, &row) {
+        if is_row(rows.as_slice(), number, places.as_slice()) {
             return Ok(number as u32);
         }
     }
+    let row = Row {
+        places: places.clone()?,
+    };
     rows.push(row)?;
     Ok(count as u32)
 }
 
-/// The numbers of the rows behind such a character, by class; none where there are no patterns.
+/// The numbers of the rows behind such a character, by class; none where there are no patterns. A class is likely
+/// to have the row that it has among `likely`, or that of the class before it.
 fn made_rows(
     alloc: Global,
     programs: &[Option<Prog>],
     numbers: &[u32],
     behind: Option<bool>,
+    likely: &[u32],
     rows: &mut Vec<Row>,
 ) -> Result<Vec<u32>, OutOfMemory>
     requires few { length numbers.now < 2 ^ 32 }
@@ -141,9 +150,12 @@ fn made_rows(
     if numbers.is_empty() {
         return Ok(made);
     }
+    let mut places = Vec::new(alloc);
+    let mut last = 0;
     for class in 0..CLASSES {
-        let row = made_row(alloc, programs, numbers, behind, class)?;
-        made.push(number_of(rows, row)?)?;
+        fill_row(programs, numbers, behind, class, &mut places)?;
+        last = number_of(rows, number_at(likely, class).unwrap_or(last), &places)?;
+        made.push(last)?;
     }
     Ok(made)
 }
@@ -159,9 +171,9 @@ pub(crate) fn candidates_of(
     ensures right { IfOk result (λ made. AreCandidates (trees_of programs.now) made) }
 {
     let mut rows = Vec::new(alloc);
-    let unknown = made_rows(alloc, programs, &numbers, None, &mut rows)?;
-    let word = made_rows(alloc, programs, &numbers, Some(true), &mut rows)?;
-    let other = made_rows(alloc, programs, &numbers, Some(false), &mut rows)?;
+    let unknown = made_rows(alloc, programs, &numbers, None, &[], &mut rows)?;
+    let word = made_rows(alloc, programs, &numbers, Some(true), &unknown, &mut rows)?;
+    let other = made_rows(alloc, programs, &numbers, Some(false), &unknown, &mut rows)?;
     Ok(Candidates {
         numbers,
         rows,

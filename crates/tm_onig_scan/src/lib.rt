@@ -19,19 +19,22 @@
 ghost use Rattle.std.specs.Option.{option_copied};
 ghost use Rattle.std.specs.Prelude.{◌≡◌, ◌↔◌, ◌+◌, ◌++◌, ◌<◌, ◌≤◌, ◌^◌, ◌-◌, ℕ, Bool, List, [], ◌∷◌, Option, length, map, option_map, Some, IsTrue, OnOk, OnErr, IfOk, IfSome, IsErrOf, slice_get};
 ghost use Rattle.tm_onig_class.specs.Tree.{Tree, tree_of};
-ghost use Rattle.tm_onig_parse.specs.Reading.{parsed};
+ghost use Rattle.tm_onig_parse.specs.Parsed.{parsed};
 ghost use Rattle.tm_onig_search.specs.Outcomes.{Caps};
 ghost use Rattle.tm_onig_scan.specs.Winner.{trees_of, parsed_if, pattern_at, patterns_at, IsReadable, earliest_winner, scan_cost};
+ghost use Rattle.tm_onig_scan.specs.Asked.{put_in};
 ghost use Rattle.tm_onig_scan.specs.Pass.{Pass, pass_from};
 ghost use Rattle.tm_onig_scan.specs.Rows.{AreCandidates};
 ghost use Rattle.tm_onig_search.specs.Places.{subject};
 ghost use Rattle.tm_onig_scan.specs.WinnerLaws.{IsEarliest, IsWinner};
 
+pub mod asked;
 pub mod candidates;
 mod passes;
 
+use asked::{Asked, Instead};
 use candidates::{Candidates, candidates_of, program_at};
-use passes::pass;
+use passes::{Job, pass};
 use std::alloc::Global;
 use std::marker::Model;
 use tm_defs::caps::Caps;
@@ -39,7 +42,7 @@ use tm_defs::memory::OutOfMemory;
 use tm_defs::texts::{Line, Name};
 use tm_onig_parse::{ParseFault, parse};
 use tm_onig_vm::fault::FindFault;
-use tm_onig_vm::program::{Prog, compile, find};
+use tm_onig_vm::program::{Prog, Room, compile, find};
 use tm_onig_vm::starts::Anchors;
 
 /// Patterns that are searched together, each with its place in the list as its number. A pattern whose
@@ -158,7 +161,6 @@ impl Scanner {
     ///
     /// What is tried takes its steps from the budget, and `Budget` comes only where the searches of all patterns,
     /// one after another, cost more than the budget in all.
-    #[tactic(auto, using(crate::proofs::Tried::pass_winner, crate::proofs::Tried::pass_cost))]
     pub fn next(
         &self,
         alloc: Global,
@@ -178,7 +180,22 @@ impl Scanner {
             allow_a,
             allow_g,
         };
-        pass(alloc, self.programs.as_slice(), None, line, anchors, budget)
+        let job = Job {
+            alloc,
+            programs: self.programs.as_slice(),
+            asked: Asked {
+                text: line.as_slice(),
+                anchors,
+            },
+        };
+        pass(
+            &job,
+            None,
+            None,
+            from as usize,
+            &mut Room::new(alloc),
+            budget,
+        )
     }
 
     /// As `next`, of the pattern of this number alone, which then has the place 0. A number beyond the patterns
@@ -214,7 +231,6 @@ impl Scanner {
     /// As `next`, of the candidates alone: the one that is found earliest, the first of them on a tie, with its
     /// place among them. A number beyond the patterns is as one whose pattern is unreadable. The candidates are
     /// those that this scanner made of the patterns that it has.
-    #[tactic(auto, using(crate::proofs::Tried::pass_winner, crate::proofs::Tried::pass_cost))]
     pub fn next_among(
         &self,
         alloc: Global,
@@ -239,12 +255,52 @@ impl Scanner {
             allow_a,
             allow_g,
         };
-        pass(
-            alloc,
-            self.programs.as_slice(),
-            Some(candidates),
-            line,
+        let asked = Asked {
+            text: line.as_slice(),
             anchors,
+        };
+        self.first_among(
+            alloc,
+            candidates,
+            None,
+            asked,
+            &mut Room::new(alloc),
+            budget,
+        )
+    }
+
+    /// As `next_among`, in a text that may be a part of a line, with another pattern in place of one of the list,
+    /// and in a room that is lent: one that searches have used already takes no memory but for the groups of a
+    /// match, which has eight of them without.
+    pub fn first_among(
+        &self,
+        alloc: Global,
+        candidates: &Candidates,
+        instead: Option<Instead>,
+        asked: Asked,
+        room: &mut Room,
+        budget: &mut u64,
+    ) -> Result<Option<(u32, Caps)>, FindFault>
+        requires candidates { AreCandidates (trees_of self.now) candidates.now }
+        requires small { length asked.text.now < 2 ^ 31 }
+        ensures hit { let patterns = put_in (patterns_at (trees_of self.now) candidates.now.numbers.items) instead.entry in
+            IfOk result (λ winner. winner ≡ earliest_winner asked.entry.text.now asked.entry.anchors.first asked.entry.anchors.allow_a asked.entry.anchors.allow_g patterns) }
+        ensures over { let patterns = put_in (patterns_at (trees_of self.now) candidates.now.numbers.items) instead.entry in
+            IsErrOf result FindFault.Budget → budget.old < scan_cost asked.entry.text.now asked.entry.anchors.first asked.entry.anchors.allow_a asked.entry.anchors.allow_g patterns }
+        ensures falls { let patterns = put_in (patterns_at (trees_of self.now) candidates.now.numbers.items) instead.entry in
+            (budget.new ≤ budget.old) × (budget.old ≤ budget.new + scan_cost asked.entry.text.now asked.entry.anchors.first asked.entry.anchors.allow_a asked.entry.anchors.allow_g patterns) }
+    {
+        let job = Job {
+            alloc,
+            programs: self.programs.as_slice(),
+            asked,
+        };
+        pass(
+            &job,
+            Some(candidates),
+            instead,
+            asked.anchors.first,
+            room,
             budget,
         )
     }

@@ -1,47 +1,75 @@
-//! One pass over the starts of a line: at each start the patterns of a list are tried in their order, and the
+//! One pass over the starts of a text: at each start the patterns of a list are tried in their order, and the
 //! first match wins.
 ghost use Rattle.std.specs.Option.{option_copied};
-ghost use Rattle.std.specs.Prelude.{◌≡◌, ◌+◌, ◌<◌, ◌≤◌, ◌^◌, ◌-◌, ℕ, List, Option, length, option_map, Some, IfOk, IfSome, IsErrOf, slice_get};
-ghost use Rattle.tm_onig_class.specs.Tree.{Tree, tree_of};
-ghost use Rattle.tm_onig_search.specs.Starts.{Sits};
-ghost use Rattle.tm_onig_vm.specs.Anchors.{subject_of};
-ghost use Rattle.tm_onig_vm.specs.First.{next_class};
-ghost use Rattle.tm_onig_scan.specs.Winner.{trees_of, pattern_at, patterns_at};
-ghost use Rattle.tm_onig_scan.specs.Pass.{pass_one, pass_here, pass_row, pass_from, listed_in};
-ghost use Rattle.tm_onig_scan.specs.Rows.{AreCandidates};
+ghost use Rattle.std.specs.Prelude.{◌≡◌, ◌+◌, ◌<◌, ◌≤◌, ◌^◌, ◌-◌, length, option_map, take, drop, IfSome};
+ghost use Rattle.tm_onig_class.specs.Tree.{tree_of};
+ghost use Rattle.tm_onig_scan.specs.Asked.{asked_subject, put_in, searched_in, subject_in, trees_in};
+ghost use Rattle.tm_onig_scan.specs.Pass.{IsAt, Tries, pass_around, pass_from, pass_here, pass_one, pass_row};
+ghost use Rattle.tm_onig_scan.specs.Rows.{AreCandidates, places_before, places_from, places_without};
+ghost use Rattle.tm_onig_scan.specs.Winner.{patterns_at};
 
+use crate::asked::{Asked, Instead};
 use crate::candidates::{Candidates, program_at, program_of_place, row_of};
 use std::alloc::Global;
 use tm_defs::caps::Caps;
-use tm_defs::texts::Line;
 use tm_onig_vm::fault::FindFault;
 use tm_onig_vm::program::{Prog, Room, attempt};
-use tm_onig_vm::starts::{Anchors, class_of, known_behind};
+use tm_onig_vm::starts::{class_of, known_behind};
+
+/// What a pass reads: the patterns by number, and what is searched.
+#[derive(Drop)]
+pub(crate) struct Job<'a> {
+    pub alloc: Global,
+    pub programs: &'a [Option<Prog>],
+    pub asked: Asked<'a>,
+}
+
+/// A start, and what stands around it.
+#[derive(Clone, Copy)]
+pub(crate) struct At {
+    pub start: usize,
+    pub behind: Option<bool>,
+    pub class: u32,
+}
+
+/// What stands around a start.
+fn at_start(asked: Asked, start: usize) -> At
+    requires { start ≤ length asked.text.now }
+    ensures start { result.start ≡ start }
+    ensures right { IsAt (asked_subject asked.entry) result }
+{
+    At {
+        start,
+        behind: known_behind(asked.text, asked.anchors, start),
+        class: class_of(asked.text.get(start).copied()),
+    }
+}
 
 /// The match of a pattern that starts here, with the pattern's number.
 fn attempt_one(
-    alloc: Global,
+    job: &Job,
     number: u32,
     program: Option<&Prog>,
-    line: &Line,
-    anchors: Anchors,
     start: usize,
     room: &mut Room,
     budget: &mut u64,
 ) -> Result<Option<(u32, Caps)>, FindFault>
-    requires small { length line.now < 2 ^ 31 }
-    requires within { start ≤ length line.now }
-    ensures hit { let tree = option_map tree_of (option_copied program.entry) in
-        IfOk result (λ won. won ≡ (pass_one (subject_of line.now anchors) start number tree).winner) }
-    ensures over { let tree = option_map tree_of (option_copied program.entry) in
-        IsErrOf result FindFault.Budget → budget.old < (pass_one (subject_of line.now anchors) start number tree).cost }
-    ensures falls { let tree = option_map tree_of (option_copied program.entry) in
-        (budget.new ≤ budget.old) × (budget.old ≤ budget.new + (pass_one (subject_of line.now anchors) start number tree).cost) }
+    requires small { length job.now.asked.text.now < 2 ^ 31 }
+    requires within { start ≤ length job.now.asked.text.now }
+    ensures { Tries (pass_one (subject_in job.now) start number (option_map tree_of (option_copied program.entry))) budget.old budget.new result }
 {
     let Some(program) = program else {
         return Ok(None);
     };
-    match attempt(alloc, program, line, anchors, start, room, budget) {
+    match attempt(
+        job.alloc,
+        program,
+        job.asked.text,
+        job.asked.anchors,
+        start,
+        room,
+        budget,
+    ) {
         Ok(None) => Ok(None),
         Ok(Some(caps)) => Ok(Some((number, caps))),
         Err(fault) => Err(fault),
@@ -50,33 +78,22 @@ fn attempt_one(
 
 /// The same, and a start is passed over where the pattern may not start.
 fn try_one(
-    alloc: Global,
+    job: &Job,
     number: u32,
     program: Option<&Prog>,
-    line: &Line,
-    anchors: Anchors,
-    start: usize,
-    behind: Option<bool>,
-    class: u32,
+    at: At,
     room: &mut Room,
     budget: &mut u64,
 ) -> Result<Option<(u32, Caps)>, FindFault>
-    requires small { length line.now < 2 ^ 31 }
-    requires within { start ≤ length line.now }
-    requires behind { Sits (subject_of line.now anchors) behind start }
-    requires class { class ≡ next_class (slice_get line.now start) }
-    ensures hit { let tree = option_map tree_of (option_copied program.entry) in
-        IfOk result (λ won. won ≡ (pass_one (subject_of line.now anchors) start number tree).winner) }
-    ensures over { let tree = option_map tree_of (option_copied program.entry) in
-        IsErrOf result FindFault.Budget → budget.old < (pass_one (subject_of line.now anchors) start number tree).cost }
-    ensures falls { let tree = option_map tree_of (option_copied program.entry) in
-        (budget.new ≤ budget.old) × (budget.old ≤ budget.new + (pass_one (subject_of line.now anchors) start number tree).cost) }
+    requires small { length job.now.asked.text.now < 2 ^ 31 }
+    requires at { IsAt (subject_in job.now) at }
+    ensures { Tries (pass_one (subject_in job.now) at.start number (option_map tree_of (option_copied program.entry))) budget.old budget.new result }
 {
     match program {
         None => Ok(None),
         Some(prog) => {
-            if prog.may_start(behind, class) {
-                attempt_one(alloc, number, program, line, anchors, start, room, budget)
+            if prog.may_start(at.behind, at.class) {
+                attempt_one(job, number, program, at.start, room, budget)
             } else {
                 Ok(None)
             }
@@ -86,39 +103,19 @@ fn try_one(
 
 /// The first of all patterns that matches here.
 fn try_all(
-    alloc: Global,
-    programs: &[Option<Prog>],
-    line: &Line,
-    anchors: Anchors,
-    start: usize,
-    behind: Option<bool>,
-    class: u32,
+    job: &Job,
+    at: At,
     room: &mut Room,
     budget: &mut u64,
 ) -> Result<Option<(u32, Caps)>, FindFault>
-    requires few { length programs.now < 2 ^ 32 }
-    requires small { length line.now < 2 ^ 31 }
-    requires within { start ≤ length line.now }
-    requires behind { Sits (subject_of line.now anchors) behind start }
-    requires class { class ≡ next_class (slice_get line.now start) }
-    ensures hit { IfOk result (λ won. won ≡ (pass_here (subject_of line.now anchors) start 0 (trees_of programs.now)).winner) }
-    ensures over { IsErrOf result FindFault.Budget → budget.old < (pass_here (subject_of line.now anchors) start 0 (trees_of programs.now)).cost }
-    ensures falls { (budget.new ≤ budget.old) × (budget.old ≤ budget.new + (pass_here (subject_of line.now anchors) start 0 (trees_of programs.now)).cost) }
+    requires few { length job.now.programs.now < 2 ^ 32 }
+    requires small { length job.now.asked.text.now < 2 ^ 31 }
+    requires at { IsAt (subject_in job.now) at }
+    ensures { Tries (pass_here (subject_in job.now) at.start 0 (trees_in job.now)) budget.old budget.new result }
 {
-    for number in 0..programs.len() {
-        let program = program_at(programs, number as u32);
-        match try_one(
-            alloc,
-            number as u32,
-            program,
-            line,
-            anchors,
-            start,
-            behind,
-            class,
-            room,
-            budget,
-        ) {
+    for number in 0..job.programs.len() {
+        let program = program_at(job.programs, number as u32);
+        match try_one(job, number as u32, program, at, room, budget) {
             Ok(None) => {}
             Ok(Some(won)) => return Ok(Some(won)),
             Err(fault) => return Err(fault),
@@ -129,29 +126,21 @@ fn try_all(
 
 /// The first of the patterns at these places of the numbers that matches here, with its place.
 fn try_row(
-    alloc: Global,
-    programs: &[Option<Prog>],
+    job: &Job,
     numbers: &[u32],
     row: &[u32],
-    line: &Line,
-    anchors: Anchors,
     start: usize,
     room: &mut Room,
     budget: &mut u64,
 ) -> Result<Option<(u32, Caps)>, FindFault>
-    requires small { length line.now < 2 ^ 31 }
-    requires within { start ≤ length line.now }
-    ensures hit { let patterns = patterns_at (trees_of programs.now) numbers.now in
-        IfOk result (λ won. won ≡ (pass_row (subject_of line.now anchors) start patterns row.now).winner) }
-    ensures over { let patterns = patterns_at (trees_of programs.now) numbers.now in
-        IsErrOf result FindFault.Budget → budget.old < (pass_row (subject_of line.now anchors) start patterns row.now).cost }
-    ensures falls { let patterns = patterns_at (trees_of programs.now) numbers.now in
-        (budget.new ≤ budget.old) × (budget.old ≤ budget.new + (pass_row (subject_of line.now anchors) start patterns row.now).cost) }
+    requires small { length job.now.asked.text.now < 2 ^ 31 }
+    requires within { start ≤ length job.now.asked.text.now }
+    ensures { Tries (pass_row (subject_in job.now) start (patterns_at (trees_in job.now) numbers.now) row.now) budget.old budget.new result }
 {
     for at in 0..row.len() {
         let place = row[at];
-        let program = program_of_place(programs, numbers, place);
-        match attempt_one(alloc, place, program, line, anchors, start, room, budget) {
+        let program = program_of_place(job.programs, numbers, place);
+        match attempt_one(job, place, program, start, room, budget) {
             Ok(None) => {}
             Ok(Some(won)) => return Ok(Some(won)),
             Err(fault) => return Err(fault),
@@ -160,105 +149,138 @@ fn try_row(
     Ok(None)
 }
 
-/// The first of the candidates that matches here, with its place among them: only those are tried that may
-/// start here.
-fn try_candidates(
-    alloc: Global,
-    programs: &[Option<Prog>],
-    candidates: &Candidates,
-    line: &Line,
-    anchors: Anchors,
-    start: usize,
-    behind: Option<bool>,
-    class: u32,
+/// How many places of a row stand before this one.
+fn count_before(row: &[u32], place: u32) -> usize
+    ensures within { result ≤ length row.now }
+    ensures before { take result row.now ≡ places_before place row.now }
+    ensures behind { drop result row.now ≡ places_from place row.now }
+{
+    for count in 0..row.len() {
+        if row[count] >= place {
+            return count;
+        }
+    }
+    row.len()
+}
+
+/// The places behind this one.
+fn without(row: &[u32], place: u32) -> &[u32]
+    ensures { result.now ≡ places_without place row.now }
+{
+    match row {
+        [first, rest @ ..] if *first == place => rest,
+        _ => row,
+    }
+}
+
+/// The first of the candidates that matches here, with its place among them, where another pattern stands at
+/// one of the places: the places of the row before it, it, and those behind it.
+fn try_around(
+    job: &Job,
+    numbers: &[u32],
+    instead: Instead,
+    at: At,
+    row: &[u32],
     room: &mut Room,
     budget: &mut u64,
 ) -> Result<Option<(u32, Caps)>, FindFault>
-    requires candidates { AreCandidates (trees_of programs.now) candidates.now }
-    requires small { length line.now < 2 ^ 31 }
-    requires within { start ≤ length line.now }
-    requires behind { Sits (subject_of line.now anchors) behind start }
-    requires class { class ≡ next_class (slice_get line.now start) }
-    ensures hit { let patterns = patterns_at (trees_of programs.now) candidates.now.numbers.items in
-        IfOk result (λ won. won ≡ (pass_here (subject_of line.now anchors) start 0 patterns).winner) }
-    ensures over { let patterns = patterns_at (trees_of programs.now) candidates.now.numbers.items in
-        IsErrOf result FindFault.Budget → budget.old < (pass_here (subject_of line.now anchors) start 0 patterns).cost }
-    ensures falls { let patterns = patterns_at (trees_of programs.now) candidates.now.numbers.items in
-        (budget.new ≤ budget.old) × (budget.old ≤ budget.new + (pass_here (subject_of line.now anchors) start 0 patterns).cost) }
+    requires small { length job.now.asked.text.now < 2 ^ 31 }
+    requires at { IsAt (subject_in job.now) at }
+    ensures { Tries (pass_around (subject_in job.now) at.start (patterns_at (trees_in job.now) numbers.now) instead.entry.place (option_map tree_of (option_copied instead.entry.program)) row.now) budget.old budget.new result }
 {
-    let row = row_of(candidates, behind, class);
+    let count = count_before(row, instead.place);
+    let (before, later) = row.split_at(count);
+    match try_row(job, numbers, before, at.start, room, budget) {
+        Ok(None) => {}
+        Ok(Some(won)) => return Ok(Some(won)),
+        Err(fault) => return Err(fault),
+    }
+    match try_one(job, instead.place, instead.program, at, room, budget) {
+        Ok(None) => {}
+        Ok(Some(won)) => return Ok(Some(won)),
+        Err(fault) => return Err(fault),
+    }
     try_row(
-        alloc,
-        programs,
-        &candidates.numbers,
-        row,
-        line,
-        anchors,
-        start,
+        job,
+        numbers,
+        without(later, instead.place),
+        at.start,
         room,
         budget,
     )
 }
 
-/// The first of the patterns that matches here: of all, or of the candidates.
-fn try_listed(
-    alloc: Global,
-    programs: &[Option<Prog>],
-    candidates: Option<&Candidates>,
-    line: &Line,
-    anchors: Anchors,
-    start: usize,
+/// The first of the candidates that matches here, with its place among them: only those are tried that may
+/// start here.
+fn try_candidates(
+    job: &Job,
+    candidates: &Candidates,
+    instead: Option<Instead>,
+    at: At,
     room: &mut Room,
     budget: &mut u64,
 ) -> Result<Option<(u32, Caps)>, FindFault>
-    requires few { length programs.now < 2 ^ 32 }
-    requires candidates { IfSome (option_copied candidates) (λ them. AreCandidates (trees_of programs.now) them) }
-    requires small { length line.now < 2 ^ 31 }
-    requires within { start ≤ length line.now }
-    ensures hit { let patterns = listed_in (trees_of programs.now) (option_copied candidates.entry) in
-        IfOk result (λ won. won ≡ (pass_here (subject_of line.now anchors) start 0 patterns).winner) }
-    ensures over { let patterns = listed_in (trees_of programs.now) (option_copied candidates.entry) in
-        IsErrOf result FindFault.Budget → budget.old < (pass_here (subject_of line.now anchors) start 0 patterns).cost }
-    ensures falls { let patterns = listed_in (trees_of programs.now) (option_copied candidates.entry) in
-        (budget.new ≤ budget.old) × (budget.old ≤ budget.new + (pass_here (subject_of line.now anchors) start 0 patterns).cost) }
+    requires candidates { AreCandidates (trees_in job.now) candidates.now }
+    requires small { length job.now.asked.text.now < 2 ^ 31 }
+    requires at { IsAt (subject_in job.now) at }
+    ensures { let patterns = put_in (patterns_at (trees_in job.now) candidates.now.numbers.items) instead.entry in
+        Tries (pass_here (subject_in job.now) at.start 0 patterns) budget.old budget.new result }
 {
-    let chars = line.as_slice();
-    let behind = known_behind(chars, anchors, start);
-    let class = class_of(chars.get(start).copied());
-    match candidates {
-        None => try_all(
-            alloc, programs, line, anchors, start, behind, class, room, budget,
+    let row = row_of(candidates, at.behind, at.class);
+    match instead {
+        Some(instead) if (instead.place as usize) < candidates.numbers.len() => try_around(
+            job,
+            &candidates.numbers,
+            instead,
+            at,
+            row,
+            room,
+            budget,
         ),
-        Some(candidates) => try_candidates(
-            alloc, programs, candidates, line, anchors, start, behind, class, room, budget,
-        ),
+        _ => try_row(job, &candidates.numbers, row, at.start, room, budget),
     }
 }
 
-/// One pass over the starts: the first match of the patterns, and it starts earliest.
-pub(crate) fn pass(
-    alloc: Global,
-    programs: &[Option<Prog>],
-    candidates: Option<&Candidates>,
-    line: &Line,
-    anchors: Anchors,
+/// The first of the patterns that matches here: of all, or of the candidates.
+fn try_listed(
+    job: &Job,
+    list: Option<&Candidates>,
+    instead: Option<Instead>,
+    at: At,
+    room: &mut Room,
     budget: &mut u64,
 ) -> Result<Option<(u32, Caps)>, FindFault>
-    requires few { length programs.now < 2 ^ 32 }
-    requires candidates { IfSome (option_copied candidates) (λ them. AreCandidates (trees_of programs.now) them) }
-    requires small { length line.now < 2 ^ 31 }
-    ensures hit { let patterns = listed_in (trees_of programs.now) (option_copied candidates.entry) in
-        IfOk result (λ won. won ≡ (pass_from (subject_of line.now anchors) (length line.now + 1 - anchors.first) anchors.first patterns).winner) }
-    ensures over { let patterns = listed_in (trees_of programs.now) (option_copied candidates.entry) in
-        IsErrOf result FindFault.Budget → budget.old < (pass_from (subject_of line.now anchors) (length line.now + 1 - anchors.first) anchors.first patterns).cost }
-    ensures falls { let patterns = listed_in (trees_of programs.now) (option_copied candidates.entry) in
-        (budget.new ≤ budget.old) × (budget.old ≤ budget.new + (pass_from (subject_of line.now anchors) (length line.now + 1 - anchors.first) anchors.first patterns).cost) }
+    requires few { length job.now.programs.now < 2 ^ 32 }
+    requires candidates { IfSome (option_copied list) (λ them. AreCandidates (trees_in job.now) them) }
+    requires small { length job.now.asked.text.now < 2 ^ 31 }
+    requires at { IsAt (subject_in job.now) at }
+    ensures { let patterns = searched_in (trees_in job.now) (option_copied list.entry) instead.entry in
+        Tries (pass_here (subject_in job.now) at.start 0 patterns) budget.old budget.new result }
 {
-    let mut room = Room::new(alloc);
-    for start in anchors.first..line.as_slice().len() + 1 {
-        match try_listed(
-            alloc, programs, candidates, line, anchors, start, &mut room, budget,
-        ) {
+    match list {
+        None => try_all(job, at, room, budget),
+        Some(candidates) => try_candidates(job, candidates, instead, at, room, budget),
+    }
+}
+
+/// One pass over the starts from this one on: the first match of the patterns, and it starts earliest.
+pub(crate) fn pass(
+    job: &Job,
+    list: Option<&Candidates>,
+    instead: Option<Instead>,
+    begin: usize,
+    room: &mut Room,
+    budget: &mut u64,
+) -> Result<Option<(u32, Caps)>, FindFault>
+    requires few { length job.now.programs.now < 2 ^ 32 }
+    requires candidates { IfSome (option_copied list) (λ them. AreCandidates (trees_in job.now) them) }
+    requires small { length job.now.asked.text.now < 2 ^ 31 }
+    ensures { let patterns = searched_in (trees_in job.now) (option_copied list.entry) instead.entry in
+        Tries (pass_from (subject_in job.now) (length job.now.asked.text.now + 1 - begin) begin patterns) budget.old budget.new result }
+{
+    for start in begin..job.asked.text.len() + 1 {
+        let at = at_start(job.asked, start);
+        match try_listed(job, list, instead, at, room, budget) {
             Ok(None) => {}
             Ok(Some(won)) => return Ok(Some(won)),
             Err(fault) => return Err(fault),

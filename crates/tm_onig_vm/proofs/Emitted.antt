@@ -1,5 +1,5 @@
 -- Code stays where more code is added, and where a hole is filled.
-use Rattle.std.proofs.Common.{◌≡◌, ◌≢◌, Bool, true, false, ℕ, zero, suc, ◌+◌, ◌-◌, ◌<◌, ◌≤◌, List, [], ◌∷◌, ◌++◌, length, get_or, map, drop, take, Option, Some, slice_get, slice_set, refl, sym, ap, ◌∙◌, arith}
+use Rattle.std.proofs.Common.{inl, inr, ◌≡◌, ◌≢◌, Bool, true, false, ℕ, zero, suc, ◌+◌, ◌-◌, ◌<◌, ◌≤◌, List, [], ◌∷◌, ◌++◌, length, get_or, map, drop, take, Option, Some, slice_get, slice_set, refl, sym, ap, ◌∙◌, arith}
 use Rattle.std.proofs.lemmas.Option.{none-some, slice_get_within}
 use Rattle.std.proofs.Math.Seq.{drop-cons}
 use Rattle.std.proofs.lemmas.List.{take_more}
@@ -11,6 +11,9 @@ use Rattle.std.specs.Prelude.{option_map}
 use Rattle.tm_onig_search.specs.Widths.{least_width, greatest_width}
 use Rattle.tm_onig_vm.specs.Near.{near}
 use Rattle.tm_onig_vm.specs.Size.{code_size, code_sizes}
+use Rattle.tm_onig_vm.specs.declared.singles.Single.{Single}
+use Rattle.tm_onig_vm.specs.Single.{is_single, is_span, single_tree, fits}
+use Rattle.tm_onig_vm.proofs.Rounds.{single_is}
 use Rattle.tm_onig_vm.specs.Code.{Code, AheadCode, BehindCode, RowCode, AnyCode, Grows, Adds}
 
 get_push_old : (xs : List Instr) (y x : Instr) (i : ℕ) → slice_get xs i ≡ Some x → slice_get (xs ++ y ∷ []) i ≡ Some x
@@ -80,16 +83,20 @@ module _ (a b : List Instr) (more : Extends a b) where
         (here.0, here.1, more pc (I.Open here.0) here.2 (λ e. cc), code_extends t here.0 here.1 here.3, more here.1 (I.Close number next) here.4 (λ e. cc))
     code_extends (Atomic t) pc next here =
         (here.0, here.1, more pc (I.Ahead here.0 false false next) here.2 (λ e. cc), code_extends t here.0 here.1 here.3, more here.1 I.Accept here.4 (λ e. cc))
-    code_extends (Repeat t least greatest greedy) pc next here = (
+    code_extends (Repeat t least greatest greedy) pc next (inl here) =
+        inl (here.0, here.1, here.2, here.3, more pc (I.Span here.0 least greatest next) here.4 (λ e. cc))
+    code_extends (Repeat t least greatest greedy) pc next (inr here) = inr (
       here.0,
       here.1,
       more pc (I.Loop here.0 least greatest greedy next) here.2 (λ e. cc),
       code_extends t here.0 here.1 here.3,
       more here.1 (I.Again here.0 least greatest greedy next) here.4 (λ e. cc),
     )
-    code_extends (Look t true negative) pc next here =
-        (here.0, here.1, more pc (I.Ahead here.0 negative true next) here.2 (λ e. cc), code_extends t here.0 here.1 here.3, more here.1 I.Accept here.4 (λ e. cc))
-    code_extends (Look t false negative) pc next here = (
+    code_extends (Look t true negative) pc next (inl here) = inl (here.0, here.1, more pc (I.Peek here.0 true negative next) here.2 (λ e. cc))
+    code_extends (Look t true negative) pc next (inr here) =
+        inr (here.0, here.1, more pc (I.Ahead here.0 negative true next) here.2 (λ e. cc), code_extends t here.0 here.1 here.3, more here.1 I.Accept here.4 (λ e. cc))
+    code_extends (Look t false negative) pc next (inl here) = inl (here.0, here.1, more pc (I.Peek here.0 false negative next) here.2 (λ e. cc))
+    code_extends (Look t false negative) pc next (inr here) = inr (
       here.0,
       here.1,
       here.2,
@@ -127,6 +134,26 @@ module _ (old code1 new : List Instr) (i : Instr) (pc next : ℕ) (grows : Grows
   -- the instruction of a pattern that is a single one, or whose parts were made before
   pub leaf_done : (t : Tree) → (slice_get new pc ≡ Some i → Code new t pc next) → Adds old code1 0 → code_size t ≡ 1 → Grows old new × Code new t pc next × Adds old new (code_size t)
   leaf_done t here none one = (all_grows, here (at_push code1 new i pc pushed at), let more1 = one_more in omega arith)
+
+  -- a greedy loop over one character
+  pub span_done : (t : Tree) (least : ℕ) (greatest : Option ℕ) (greedy : Bool) (x : Single) → i ≡ I.Span x least greatest next → t ≡ single_tree x → greedy ≡ true → fits least greatest ≡ true → Adds old code1 0 →
+      Grows old new × Code new (Repeat t least greatest greedy) pc next × Adds old new (code_size (Repeat t least greatest greedy))
+  span_done t least greatest greedy x is of on fit none =
+      let more1 = one_more in
+      let size : code_size (Repeat t least greatest greedy) ≡ 1 = rw (on, fit, of, single_is x) refl in
+      (all_grows, inl (x, of, on, fit, rw is at (at_push code1 new i pc pushed at)), omega arith)
+
+  -- a look at one character
+  pub peek_done : (t : Tree) (ahead negative : Bool) (x : Single) → i ≡ I.Peek x ahead negative next → t ≡ single_tree x → Adds old code1 0 →
+      Grows old new × Code new (Look t ahead negative) pc next × Adds old new (code_size (Look t ahead negative))
+  peek_done t true negative x is of none =
+      let more1 = one_more in
+      let size : code_size (Look t true negative) ≡ 1 = rw (of, single_is x) refl in
+      (all_grows, inl (x, of, rw is at (at_push code1 new i pc pushed at)), omega arith)
+  peek_done t false negative x is of none =
+      let more1 = one_more in
+      let size : code_size (Look t false negative) ≡ 1 = rw (of, single_is x) refl in
+      (all_grows, inl (x, of, rw is at (at_push code1 new i pc pushed at)), omega arith)
 
   pub cat_done : (ts : Trees) (first : ℕ) → i ≡ I.Step first → RowCode code1 ts first next → Adds old code1 (code_sizes ts) →
       Grows old new × Code new (Cat ts) pc next × Adds old new (code_size (Cat ts))
@@ -171,6 +198,15 @@ module _ (old code1 new : List Instr) (i : Instr) (pc next : ℕ) (grows : Grows
     let more1 = one_more in omega arith,
   )
 
+-- a look whose body is of more than one character
+pub look_ahead_done : (old new : List Instr) (t : Tree) (negative : Bool) (pc next : ℕ) → is_single t ≡ false → Grows old new × AheadCode new t negative true pc next × Adds old new (code_size t + 2) →
+    Grows old new × Code new (Look t true negative) pc next × Adds old new (code_size (Look t true negative))
+look_ahead_done old new t negative pc next long made = (made.0, inr made.1, rw long made.2)
+
+pub look_behind_done : (old new : List Instr) (t : Tree) (negative : Bool) (pc next : ℕ) → is_single t ≡ false → Grows old new × BehindCode new t negative pc next × Adds old new (code_size t + 3) →
+    Grows old new × Code new (Look t false negative) pc next × Adds old new (code_size (Look t false negative))
+look_behind_done old new t negative pc next long made = (made.0, inr made.1, rw long made.2)
+
 -- a hole, the body, the hole filled, and the loop
 module _ (old code1 code2 code3 new : List Instr) (t : Tree) (least : ℕ) (greatest : Option ℕ) (greedy : Bool) (first last pc next : ℕ)
     (hole : code1 ≡ old ++ I.Hole ∷ []) (at_hole : last ≡ length old) (grows : Grows code1 code2) (body : Code code2 t first last) (adds : Adds code1 code2 (code_size t))
@@ -193,19 +229,19 @@ module _ (old code1 code2 code3 new : List Instr) (t : Tree) (least : ℕ) (grea
       let same : length code3 ≡ length code2 = rw filled (length_set code2 last (I.Again first least greatest greedy next)) in
       let two : Adds code3 new 1 = adds_push code3 new (I.Loop first least greatest greedy next) pushed in omega arith
 
-  pub repeat_done : Grows old new × Code new (Repeat t least greatest greedy) pc next × Adds old new (code_size t + 2)
-  repeat_done =
+  pub repeat_done : is_span t least greatest greedy ≡ false → Grows old new × Code new (Repeat t least greatest greedy) pc next × Adds old new (code_size (Repeat t least greatest greedy))
+  repeat_done round_by_round =
       let on = grows_push code3 new (I.Loop first least greatest greedy next) pushed in
       let more4 : Extends code3 new = λ j x e made. on j x e in (
         grows_trans old code3 new grows3 on,
-        (
+        inr (
           first,
           last,
           at_push code3 new (I.Loop first least greatest greedy next) pc pushed at,
           code_extends code3 new more4 t first last (code_extends code2 code3 more3 t first last body),
           on last (I.Again first least greatest greedy next) (rw filled (get_set_same code2 last I.Hole (I.Again first least greatest greedy next) hole_is)),
         ),
-        adds4,
+        rw round_by_round adds4,
       )
 
 pub any_more : (code : List Instr) (ps : List Pattern) (p : Pattern) (targets : List ℕ) (q next : ℕ) → AnyCode code (trees (map tree_of ps)) targets next → Code code (tree_of p) q next →

@@ -1,15 +1,14 @@
 -- One instruction does what the goals at its place do first.
-use Rattle.std.proofs.Common.{⊎_elim, ◌≡◌, ℕ, ◌+◌, ◌<◌, ◌≤◌, Bool, true, false, cond, List, [], ◌∷◌, length, map, Option, Some, None, slice_get, slice_set, ◌==◌, nat_lt, true≢false, refl, sym, ap, ◌∙◌, subst, arith}
-use Rattle.std.proofs.lemmas.Option.{slice_get_within}
+use Rattle.std.proofs.Common.{⊎_elim, inl, inr, ◌≡◌, ℕ, ◌+◌, ◌<◌, ◌≤◌, Bool, true, false, cond, List, [], ◌∷◌, length, map, Option, Some, None, slice_get, slice_set, ◌==◌, nat_lt, refl, sym, ap, ap₂, ◌∙◌, subst, arith}
 use Rattle.tm_onig_class.specs.Tree.{Tree, Empty, Char, Any, InSet, Cat, Alt, Group, Atomic, Repeat, Look, Back, Holds, Trees, NoTrees, More}
-use Rattle.tm_onig_search.specs.Outcomes.{Caps, Hit, Outcome, Rest, tick, fail, spend, or_else, accept, prefer}
-use Rattle.tm_onig_search.specs.Places.{Subject, passes, matches, in_set, is_any, begins, holds}
-use Rattle.tm_onig_search.specs.Search.{at_goal, look_back, is_at, loop, last_set, read_group, search_tree, search_row, search_any}
+use Rattle.tm_onig_search.specs.Outcomes.{Caps, Hit, Outcome, Rest, tick, fail, spend, or_else, accept, prefer, looked}
+use Rattle.tm_onig_search.specs.Places.{Subject, passes, matches, in_set, is_any, begins, before, holds}
+use Rattle.tm_onig_search.specs.Search.{at_goal, look_back, nearest, is_at, loop, last_set, read_group, search_tree, search_row, search_any}
 use Rattle.tm_onig_search.proofs.Local.{tree_local, loop_step}
 use Rattle.tm_onig_search.proofs.Outcomes.{or_else-fail_right}
 use Rattle.tm_onig_vm.specs.declared.code.Instr.{Instr}
 use Rattle.tm_onig_vm.specs.declared.code.Instr.TheVariants as I
-use Rattle.std.specs.Prelude.{◌-◌, zero, suc, min, slice_range, drop, option_map}
+use Rattle.std.specs.Prelude.{◌-◌, ◌&&◌, zero, suc, min, nat_le, if◌then◌else◌, slice_range, drop, option_map}
 use Rattle.std.proofs.lemmas.Bool.Decides.{nat_tests}
 use Rattle.tm_onig_search.specs.Widths.{least_width, greatest_width}
 use Rattle.tm_onig_search.specs.Search.{width_or}
@@ -18,16 +17,17 @@ use Rattle.tm_onig_search.proofs.Ends.{EndsFrom, accept_ends, tree_ends}
 use Rattle.tm_onig_search.proofs.Hits.{cond_hit, fail_hit}
 use Rattle.tm_onig_search.proofs.Within.{behind_hit}
 use Rattle.tm_onig_vm.specs.Near.{near}
+use Rattle.tm_onig_vm.specs.declared.singles.Single.{Single}
+use Rattle.tm_onig_vm.specs.Single.{single_tree, single_has, fits, run_of, most_of}
 use Rattle.tm_onig_vm.proofs.Behind.{tried, back_some, back_none}
+use Rattle.tm_onig_vm.proofs.Costs.{cost_same, tick-spend}
+use Rattle.tm_onig_vm.proofs.Rounds.{passes_within, run_within, single_searches, single_least, single_greatest, span_is}
 use Rattle.tm_onig_vm.specs.Code.{Code, RowCode, AnyCode}
-use Rattle.tm_onig_vm.specs.Machine.{Frame, Do, CloseOf, AgainOf, ArriveOf, Thread, at_pc, Goes, Stands, turn_of, starts, behind_of, goes_if, read_of, exec, frames_rest, Means, AllMean, WaitsFor, ActsFor, resumed}
+use Rattle.tm_onig_vm.specs.Machine.{Frame, Do, CloseOf, AgainOf, ArriveOf, Thread, at_pc, Goes, Stands, turn_of, from_each, span_of, peek_of, cost_behind, behind_of, goes_if, read_of, exec, frames_rest, Means, AllMean, WaitsFor, ActsFor, resumed}
 
 -- a body that has to end at a position ends there
 at_ends : (s : Subject) (q start : ℕ) → EndsFrom s start (at_goal q accept) start
 at_ends s q start at cs h low high e = ⊎_elim (accept_ends s start at cs h low high) (λ f. absurd (fail_hit h f)) (cond_hit (at == q) (accept at cs) fail h e)
-
-spend_one : (o : Outcome) → tick o ≡ spend 1 o
-spend_one o = ap (λ (c : ℕ). let r : Outcome = record { hit = o.hit; cost = c } in r) (omega arith)
 
 spend_two : (o : Outcome) → tick (tick o) ≡ spend 2 o
 spend_two o = ap (λ (c : ℕ). let r : Outcome = record { hit = o.hit; cost = c } in r) (omega arith)
@@ -89,27 +89,26 @@ module _ (s : Subject) (code : List Instr) where
   -- a thread that goes on where the test holds
   test_left : (b : Bool) (fs : List Frame) (next : ℕ) (numbers : List ℕ) (pos at : ℕ) (caps caps2 : Caps) → Stands code fs next → (b ≡ true → at ≤ length s.line) →
       ActsFor s code (goes_if b (at_pc next numbers at caps)) pos caps2 (tick (cond b (frames_rest s fs numbers at caps) fail))
-  test_left true fs next numbers pos at caps caps2 stands fits = let o = frames_rest s fs numbers at caps in (o, one_left fs next numbers at caps stands (fits refl), spend_one o)
-  test_left false fs next numbers pos at caps caps2 stands fits = (fail, refl, spend_one fail)
+  test_left true fs next numbers pos at caps caps2 stands fits = let o = frames_rest s fs numbers at caps in (o, one_left fs next numbers at caps stands (fits refl), tick-spend o)
+  test_left false fs next numbers pos at caps caps2 stands fits = (fail, refl, tick-spend fail)
 
   read_left : (fold : Bool) (g : Option (ℕ × ℕ)) (fs : List Frame) (next : ℕ) (numbers : List ℕ) (pos : ℕ) (caps : Caps) → Stands code fs next → pos ≤ length s.line →
       ActsFor s code (read_of s fold g next numbers pos caps) pos caps (tick (read_group s fold g (frames_rest s fs numbers) pos caps))
-  read_left fold None fs next numbers pos caps stands fits = (fail, refl, spend_one fail)
+  read_left fold None fs next numbers pos caps stands fits = (fail, refl, tick-spend fail)
   read_left fold (Some g) fs next numbers pos caps stands fits =
       let text = slice_range s.line g.0 g.1 in
       test_left (begins fold text (drop pos s.line)) fs next numbers pos (pos + length text) caps caps stands (λ is_so. begins_within s.line pos fold text fits is_so)
 
-  -- the starts of a look-behind
-  starts_mean : (t : Tree) (first last end : ℕ) (pos : ℕ) (caps : Caps) (lowest n : ℕ) → Code code t first last → slice_get code last ≡ Some (I.Arrive end) → slice_get code end ≡ Some I.Accept →
-      lowest + n ≤ suc (length s.line) →
-      AllMean s code (map (λ q. at_pc first (pos ∷ []) q caps) (starts lowest n)) (tried (λ q. search_tree s t (at_goal pos accept) q caps) lowest n)
+  -- the same goals from each of n positions
+  each_mean : (fs : List Frame) (pc : ℕ) (numbers : List ℕ) (caps : Caps) (lowest n : ℕ) → Stands code fs pc → ((i : ℕ) → i < n → lowest + i ≤ length s.line) →
+      AllMean s code (from_each pc numbers caps lowest n) (tried (λ q. frames_rest s fs numbers q caps) lowest n)
   unfolding tried
-  starts_mean t first last end pos caps lowest zero body arrive done within = refl
-  starts_mean t first last end pos caps lowest (suc n) body arrive done within = (
-    search_tree s t (at_goal pos accept) (lowest + n) caps,
-    tried (λ q. search_tree s t (at_goal pos accept) q caps) lowest n,
-    (Do t ∷ ArriveOf ∷ [], (last, body, (end, arrive, done)), omega arith, refl),
-    starts_mean t first last end pos caps lowest n body arrive done (omega arith),
+  each_mean fs pc numbers caps lowest zero stands within = refl
+  each_mean fs pc numbers caps lowest (suc n) stands within = (
+    frames_rest s fs numbers (lowest + n) caps,
+    tried (λ q. frames_rest s fs numbers q caps) lowest n,
+    (fs, stands, within n (omega arith), refl),
+    each_mean fs pc numbers caps lowest n stands (λ i low. within i (omega arith)),
     refl,
   )
 
@@ -122,7 +121,7 @@ module _ (s : Subject) (code : List Instr) where
       far = min pos (width_or greatest pos)
 
       go : (b : Bool) → nat_lt far least ≡ b →
-          AllMean s code (cond b [] (map (λ q. at_pc first (pos ∷ []) q caps) (starts (pos - far) (pos - least + 1 - (pos - far)))))
+          AllMean s code (cond b [] (from_each first (pos ∷ []) caps (pos - far) (pos - least + 1 - (pos - far))))
           (look_back (λ q. search_tree s t (at_goal pos accept) q caps) (least_width t) (greatest_width t) pos)
       go true is =
           let high : far < least = grind (arith, nat_tests) in
@@ -130,9 +129,8 @@ module _ (s : Subject) (code : List Instr) where
       go false is =
           let low : least ≤ far = grind (arith, nat_tests) in
           let most : far ≤ pos = omega arith in
-          let within : pos - far + (pos - least + 1 - (pos - far)) ≤ suc (length s.line) = omega arith in
           rw (back_some (λ q. search_tree s t (at_goal pos accept) q caps) (least_width t) (greatest_width t) pos far least small least_is (rw greatest_is refl) low)
-          (starts_mean t first last end pos caps (pos - far) (pos - least + 1 - (pos - far)) body arrive done within)
+          (each_mean (Do t ∷ ArriveOf ∷ []) first (pos ∷ []) caps (pos - far) (pos - least + 1 - (pos - far)) (last, body, (end, arrive, done)) (λ i below. omega arith))
 
   -- a body alone from here on
   ahead_left : (t : Tree) (negative stays : Bool) (fs : List Frame) (first last next : ℕ) (numbers : List ℕ) (pos : ℕ) (caps : Caps) (o : Outcome) → Code code t first last →
@@ -176,30 +174,111 @@ module _ (s : Subject) (code : List Instr) where
       ActsFor s code (cond empty (Goes 1 (at_pc next numbers pos caps ∷ [])) (Goes 2 (turn_of first least greatest greedy next count numbers pos caps))) pos caps
       (tick (cond empty (frames_rest s fs numbers pos caps) (loop s (search_tree s t) least greatest greedy (frames_rest s fs numbers) count pos caps)))
   again_left t first last least greatest greedy next count fs numbers pos caps body back stands fits true =
-      let o = frames_rest s fs numbers pos caps in (o, one_left fs next numbers pos caps stands fits, spend_one o)
+      let o = frames_rest s fs numbers pos caps in (o, one_left fs next numbers pos caps stands fits, tick-spend o)
   again_left t first last least greatest greedy next count fs numbers pos caps body back stands fits false =
       let left = turn_left t first last least greatest greedy next count fs numbers pos caps body back stands fits in
       (left.0, left.1, ap tick left.2 ∙ spend_two left.0)
 
-  passes_within : (test : ℕ → Bool) (pos : ℕ) → passes test (slice_get s.line pos) ≡ true → pos + 1 ≤ length s.line
-  passes_within test pos = go (slice_get s.line pos) refl
+  -- a greedy loop over one character
+  span_left : (x : Single) (least : ℕ) (greatest : Option ℕ) (next : ℕ) (fs : List Frame) (numbers : List ℕ) (pos : ℕ) (caps : Caps) → fits least greatest ≡ true → Stands code fs next → pos ≤ length s.line →
+      ActsFor s code (span_of (run_of (single_has x) (most_of greatest s.line) (drop pos s.line)) least greatest next numbers pos caps) pos caps
+      (loop s (search_tree s (single_tree x)) least greatest true (frames_rest s fs numbers) 0 pos caps)
+  span_left x least greatest next fs numbers pos caps fit stands within =
+      let r = run_of (single_has x) (most_of greatest s.line) (drop pos s.line) in
+      let last : pos + r ≤ length s.line = run_within (single_has x) (most_of greatest s.line) s.line pos within in (
+        tried (λ q. frames_rest s fs numbers q caps) (pos + least) (r + 1 - least),
+        each_mean fs next numbers caps (pos + least) (r + 1 - least) stands (λ i low. omega arith),
+        span_is s x (frames_rest s fs numbers) least caps greatest fit pos within r refl,
+      )
+
+  -- a look at one character, which alone gives a success of this cost or a failure of that
+  look_left : (negative found : Bool) (n end : ℕ) (fs : List Frame) (next : ℕ) (numbers : List ℕ) (pos : ℕ) (caps caps2 : Caps) → Stands code fs next → pos ≤ length s.line →
+      ActsFor s code (peek_of (suc n) negative found (at_pc next numbers pos caps)) pos caps2
+      (tick (looked negative (record { hit = if found then Some (record { end = end; caps = caps }) else None; cost = n }) (frames_rest s fs numbers) pos caps))
+  look_left false true n end fs next numbers pos caps caps2 stands fits =
+      let o = frames_rest s fs numbers pos caps in (o, one_left fs next numbers pos caps stands fits, cost_same o.hit _ _ (omega arith))
+  look_left false false n end fs next numbers pos caps caps2 stands fits = (fail, refl, cost_same None _ _ (omega arith))
+  look_left true true n end fs next numbers pos caps caps2 stands fits = (fail, refl, cost_same None _ _ (omega arith))
+  look_left true false n end fs next numbers pos caps caps2 stands fits =
+      let o = frames_rest s fs numbers pos caps in (o, one_left fs next numbers pos caps stands fits, cost_same o.hit _ _ (omega arith))
+
+  peek_left : (x : Single) (negative : Bool) (next : ℕ) (fs : List Frame) (numbers : List ℕ) (pos : ℕ) (caps : Caps) → Stands code fs next → pos ≤ length s.line →
+      ActsFor s code (exec s (I.Peek x true negative next) numbers pos caps) pos caps (tick (looked negative (search_tree s (single_tree x) accept pos caps) (frames_rest s fs numbers) pos caps))
+  unfolding exec
+  peek_left x negative next fs numbers pos caps stands fits =
+      let found = passes (single_has x) (slice_get s.line pos) in
+      subst (λ (o : Outcome). ActsFor s code (peek_of (cond found 3 2) negative found (at_pc next numbers pos caps)) pos caps (tick (looked negative o (frames_rest s fs numbers) pos caps)))
+      (sym (single_searches s x accept pos caps)) (go found)
     where
-      go : (o : Option ℕ) → slice_get s.line pos ≡ o → passes test o ≡ true → pos + 1 ≤ length s.line
-      go None got is_so = absurd (true≢false (sym is_so))
-      go (Some c) got is_so = let inside : pos < length s.line = slice_get_within s.line pos c got in omega arith
+      go : (b : Bool) → ActsFor s code (peek_of (cond b 3 2) negative b (at_pc next numbers pos caps)) pos caps (tick (looked negative (tick (cond b (accept (pos + 1) caps) fail)) (frames_rest s fs numbers) pos caps))
+      go true = look_left negative true 2 (pos + 1) fs next numbers pos caps caps stands fits
+      go false = look_left negative false 1 0 fs next numbers pos caps caps stands fits
+
+  -- a look-behind at one character
+  back_one : (x : Single) (pos : ℕ) (caps : Caps) →
+      look_back (λ q. search_tree s (single_tree x) (at_goal pos accept) q caps) (least_width (single_tree x)) (greatest_width (single_tree x)) pos
+      ≡ record { hit = if passes (single_has x) (before s.line pos) then Some (record { end = pos; caps = caps }) else None; cost = cost_behind pos (passes (single_has x) (before s.line pos)) - 1 }
+  unfolding nearest
+  back_one x pos caps = ap₂ (λ (w : ℕ) (g : Option ℕ). look_back (λ q. search_tree s (single_tree x) (at_goal pos accept) q caps) w g pos) (single_least x) (single_greatest x) ∙ go pos
+    where
+      at : (p : ℕ) → search_tree s (single_tree x) (at_goal (suc p) accept) p caps
+          ≡ record { hit = if passes (single_has x) (slice_get s.line p) then Some (record { end = suc p; caps = caps }) else None; cost = (if passes (single_has x) (slice_get s.line p) then 4 else 2) - 1 }
+      at p = rw (single_searches s x (at_goal (suc p) accept) p caps) (found (passes (single_has x) (slice_get s.line p)))
+        where
+          found : (b : Bool) → tick (cond b (at_goal (suc p) accept (p + 1) caps) fail) ≡ record { hit = cond b (Some (record { end = suc p; caps = caps })) None; cost = cond b 4 2 - 1 }
+          found true =
+              let e : p + 1 ≡ suc p = omega arith in
+              let same : (suc p == suc p) ≡ true = grind (arith, nat_tests) in
+              rw e (ap (λ (b : Bool). tick (tick (cond b (accept (suc p) caps) fail))) same)
+          found false = refl
+
+      go : (q : ℕ) → look_back (λ q2. search_tree s (single_tree x) (at_goal q accept) q2 caps) 1 (Some 1) q
+          ≡ record { hit = if passes (single_has x) (before s.line q) then Some (record { end = q; caps = caps }) else None; cost = cost_behind q (passes (single_has x) (before s.line q)) - 1 }
+      go zero = refl
+      go (suc p) =
+          let some : nat_le 1 (suc p) ≡ true = grind (arith, nat_tests) in
+          let none : min (suc p) 1 - 1 ≡ 0 = omega arith in
+          let back : suc p - 1 ≡ p = omega arith in
+          let later : (suc p == 0) ≡ false = grind (arith, nat_tests) in
+          let search : ℕ → Outcome = λ q. search_tree s (single_tree x) (at_goal (suc p) accept) q caps in
+          let before_is : before s.line (suc p) ≡ slice_get s.line p = ap₂ (λ (b : Bool) (q : ℕ). cond b None (slice_get s.line q)) later back in
+          ap (λ (b : Bool). cond (b && nat_le 1 1) (nearest search (min (suc p) 1 - 1) (suc p - 1)) fail) some ∙ ap₂ (nearest search) none back ∙ at p
+          ∙ ap₂ (λ (o : Option ℕ) (z : Bool). let r : Outcome = record { hit = cond (passes (single_has x) o) (Some (record { end = suc p; caps = caps })) None; cost = cond z 1 (cond (passes (single_has x) o) 4 2) - 1 } in r)
+          (sym before_is) (sym later)
+
+  cost_some : (pos : ℕ) (found : Bool) → suc (cost_behind pos found - 1) ≡ cost_behind pos found
+  cost_some zero found = refl
+  cost_some (suc p) found =
+      let later : (suc p == 0) ≡ false = grind (arith, nat_tests) in
+      subst (λ (z : Bool). suc (cond z 1 (cond found 4 2) - 1) ≡ cond z 1 (cond found 4 2)) (sym later) (go found)
+    where
+      go : (b : Bool) → suc (cond b 4 2 - 1) ≡ cond b 4 2
+      go true = refl
+      go false = refl
+
+  peek_back_left : (x : Single) (negative : Bool) (next : ℕ) (fs : List Frame) (numbers : List ℕ) (pos : ℕ) (caps : Caps) → Stands code fs next → pos ≤ length s.line →
+      ActsFor s code (exec s (I.Peek x false negative next) numbers pos caps) pos caps
+      (tick (looked negative (look_back (λ q. search_tree s (single_tree x) (at_goal pos accept) q caps) (least_width (single_tree x)) (greatest_width (single_tree x)) pos) (frames_rest s fs numbers) pos caps))
+  unfolding exec
+  peek_back_left x negative next fs numbers pos caps stands fits =
+      let found = passes (single_has x) (before s.line pos) in
+      subst (λ (o : Outcome). ActsFor s code (peek_of (cost_behind pos found) negative found (at_pc next numbers pos caps)) pos caps (tick (looked negative o (frames_rest s fs numbers) pos caps)))
+      (sym (back_one x pos caps)) (subst (λ (n : ℕ). ActsFor s code (peek_of n negative found (at_pc next numbers pos caps)) pos caps
+      (tick (looked negative (record { hit = if found then Some (record { end = pos; caps = caps }) else None; cost = cost_behind pos found - 1 }) (frames_rest s fs numbers) pos caps)))
+      (cost_some pos found) (look_left negative found (cost_behind pos found - 1) pos fs next numbers pos caps caps stands fits))
 
   pub step : (fs : List Frame) (pc : ℕ) (numbers : List ℕ) (pos : ℕ) (caps : Caps) → length s.line < 0x80000000 → Stands code fs pc → pos ≤ length s.line →
       (i : Instr) × (slice_get code pc ≡ Some i) × ActsFor s code (exec s i numbers pos caps) pos caps (frames_rest s fs numbers pos caps)
   unfolding exec search_tree
   step [] pc numbers pos caps small stands fits = (I.Accept, stands, refl)
   step (Do Empty ∷ fs) pc numbers pos caps small stands fits =
-      (I.Step stands.0, stands.1, (frames_rest s fs numbers pos caps, one_left fs stands.0 numbers pos caps stands.2 fits, spend_one (frames_rest s fs numbers pos caps)))
+      (I.Step stands.0, stands.1, (frames_rest s fs numbers pos caps, one_left fs stands.0 numbers pos caps stands.2 fits, tick-spend (frames_rest s fs numbers pos caps)))
   step (Do (Char c fold) ∷ fs) pc numbers pos caps small stands fits =
-      (I.Char c fold stands.0, stands.1, test_left (passes (matches fold c) (slice_get s.line pos)) fs stands.0 numbers pos (pos + 1) caps caps stands.2 (λ is_so. passes_within (matches fold c) pos is_so))
+      (I.Char c fold stands.0, stands.1, test_left (passes (matches fold c) (slice_get s.line pos)) fs stands.0 numbers pos (pos + 1) caps caps stands.2 (λ is_so. passes_within s.line (matches fold c) pos is_so))
   step (Do (Any newline) ∷ fs) pc numbers pos caps small stands fits =
-      (I.Any newline stands.0, stands.1, test_left (passes (is_any newline) (slice_get s.line pos)) fs stands.0 numbers pos (pos + 1) caps caps stands.2 (λ is_so. passes_within (is_any newline) pos is_so))
+      (I.Any newline stands.0, stands.1, test_left (passes (is_any newline) (slice_get s.line pos)) fs stands.0 numbers pos (pos + 1) caps caps stands.2 (λ is_so. passes_within s.line (is_any newline) pos is_so))
   step (Do (InSet set fold) ∷ fs) pc numbers pos caps small stands fits =
-      (I.Member set fold stands.0, stands.1, test_left (passes (in_set set fold) (slice_get s.line pos)) fs stands.0 numbers pos (pos + 1) caps caps stands.2 (λ is_so. passes_within (in_set set fold) pos is_so))
+      (I.Member set fold stands.0, stands.1, test_left (passes (in_set set fold) (slice_get s.line pos)) fs stands.0 numbers pos (pos + 1) caps caps stands.2 (λ is_so. passes_within s.line (in_set set fold) pos is_so))
   step (Do (Cat ts) ∷ fs) pc numbers pos caps small stands fits =
       let first = stands.1.0 in (
         I.Step first,
@@ -207,7 +286,7 @@ module _ (s : Subject) (code : List Instr) where
         (
           frames_rest s (row_frames ts fs) numbers pos caps,
           one_left (row_frames ts fs) first numbers pos caps (row_stands ts fs first stands.0 stands.1.2 stands.2) fits,
-          ap (λ (r : Rest). tick (r pos caps)) (sym (row_rest ts fs numbers)) ∙ spend_one (frames_rest s (row_frames ts fs) numbers pos caps),
+          ap (λ (r : Rest). tick (r pos caps)) (sym (row_rest ts fs numbers)) ∙ tick-spend (frames_rest s (row_frames ts fs) numbers pos caps),
         ),
       )
   step (Do (Alt ts) ∷ fs) pc numbers pos caps small stands fits = (
@@ -216,7 +295,7 @@ module _ (s : Subject) (code : List Instr) where
     (
       search_any s ts (frames_rest s fs numbers) pos caps,
       any_left ts stands.1.0 fs stands.0 numbers pos caps stands.1.2 stands.2 fits,
-      spend_one (search_any s ts (frames_rest s fs numbers) pos caps),
+      tick-spend (search_any s ts (frames_rest s fs numbers) pos caps),
     ),
   )
   step (Do (Group number t) ∷ fs) pc numbers pos caps small stands fits =
@@ -224,50 +303,64 @@ module _ (s : Subject) (code : List Instr) where
       let inner = frames_rest s (Do t ∷ CloseOf number ∷ fs) (pos ∷ numbers) pos caps in (
         I.Open here.0,
         here.2,
-        (inner, one_left (Do t ∷ CloseOf number ∷ fs) here.0 (pos ∷ numbers) pos caps (here.1, here.3, (stands.0, here.4, stands.2)) fits, spend_one inner),
+        (inner, one_left (Do t ∷ CloseOf number ∷ fs) here.0 (pos ∷ numbers) pos caps (here.1, here.3, (stands.0, here.4, stands.2)) fits, tick-spend inner),
       )
   step (Do (Atomic t) ∷ fs) pc numbers pos caps small stands fits =
       let here = stands.1 in
       (I.Ahead here.0 false false stands.0, here.2, ahead_left t false false fs here.0 here.1 stands.0 numbers pos caps _ here.3 here.4 stands.2 fits refl)
   step (Do (Repeat t least greatest greedy) ∷ fs) pc numbers pos caps small stands fits =
-      let here = stands.1 in
-      let left = turn_left t here.0 here.1 least greatest greedy stands.0 0 fs numbers pos caps here.3 here.4 stands.2 fits in
-      (I.Loop here.0 least greatest greedy stands.0, here.2, (left.0, left.1, left.2 ∙ spend_one left.0))
+      elim stands.1 [
+        | inl here ↦
+            (I.Span here.0 least greatest stands.0, here.4, rw (here.1, here.2) (span_left here.0 least greatest stands.0 fs numbers pos caps here.3 stands.2 fits))
+        | inr here ↦
+            let left = turn_left t here.0 here.1 least greatest greedy stands.0 0 fs numbers pos caps here.3 here.4 stands.2 fits in
+            (I.Loop here.0 least greatest greedy stands.0, here.2, (left.0, left.1, left.2 ∙ tick-spend left.0))
+      ]
   step (Do (Look t true false) ∷ fs) pc numbers pos caps small stands fits =
-      let here = stands.1 in
-      (I.Ahead here.0 false true stands.0, here.2, ahead_left t false true fs here.0 here.1 stands.0 numbers pos caps _ here.3 here.4 stands.2 fits refl)
+      elim stands.1 [
+        | inl here ↦ (I.Peek here.0 true false stands.0, here.2, rw here.1 (peek_left here.0 false stands.0 fs numbers pos caps stands.2 fits))
+        | inr here ↦ (I.Ahead here.0 false true stands.0, here.2, ahead_left t false true fs here.0 here.1 stands.0 numbers pos caps _ here.3 here.4 stands.2 fits refl)
+      ]
   step (Do (Look t true true) ∷ fs) pc numbers pos caps small stands fits =
-      let here = stands.1 in
-      (I.Ahead here.0 true true stands.0, here.2, ahead_left t true true fs here.0 here.1 stands.0 numbers pos caps _ here.3 here.4 stands.2 fits refl)
+      elim stands.1 [
+        | inl here ↦ (I.Peek here.0 true true stands.0, here.2, rw here.1 (peek_left here.0 true stands.0 fs numbers pos caps stands.2 fits))
+        | inr here ↦ (I.Ahead here.0 true true stands.0, here.2, ahead_left t true true fs here.0 here.1 stands.0 numbers pos caps _ here.3 here.4 stands.2 fits refl)
+      ]
   step (Do (Look t false false) ∷ fs) pc numbers pos caps small stands fits =
-      let here = stands.1 in (
-        I.Behind here.0 false (near (least_width t)) (option_map near (greatest_width t)) stands.0,
-        here.3,
-        behind_left t false fs here.0 here.1 here.2 stands.0 numbers pos caps _ (omega arith) here.4 here.5 here.6 stands.2 fits refl,
-      )
+      elim stands.1 [
+        | inl here ↦ (I.Peek here.0 false false stands.0, here.2, rw here.1 (peek_back_left here.0 false stands.0 fs numbers pos caps stands.2 fits))
+        | inr here ↦ (
+          I.Behind here.0 false (near (least_width t)) (option_map near (greatest_width t)) stands.0,
+          here.3,
+          behind_left t false fs here.0 here.1 here.2 stands.0 numbers pos caps _ (omega arith) here.4 here.5 here.6 stands.2 fits refl,
+        )
+      ]
   step (Do (Look t false true) ∷ fs) pc numbers pos caps small stands fits =
-      let here = stands.1 in (
-        I.Behind here.0 true (near (least_width t)) (option_map near (greatest_width t)) stands.0,
-        here.3,
-        behind_left t true fs here.0 here.1 here.2 stands.0 numbers pos caps _ (omega arith) here.4 here.5 here.6 stands.2 fits refl,
-      )
+      elim stands.1 [
+        | inl here ↦ (I.Peek here.0 false true stands.0, here.2, rw here.1 (peek_back_left here.0 true stands.0 fs numbers pos caps stands.2 fits))
+        | inr here ↦ (
+          I.Behind here.0 true (near (least_width t)) (option_map near (greatest_width t)) stands.0,
+          here.3,
+          behind_left t true fs here.0 here.1 here.2 stands.0 numbers pos caps _ (omega arith) here.4 here.5 here.6 stands.2 fits refl,
+        )
+      ]
   step (Do (Back groups fold) ∷ fs) pc numbers pos caps small stands fits =
       (I.Read groups fold stands.0, stands.1, read_left fold (last_set caps groups) fs stands.0 numbers pos caps stands.2 fits)
   step (Do (Holds p) ∷ fs) pc numbers pos caps small stands fits =
       (I.Place p stands.0, stands.1, test_left (holds s p pos) fs stands.0 numbers pos pos caps caps stands.2 (λ is_so. fits))
-  step (CloseOf number ∷ fs) pc [] pos caps small stands fits = (I.Close number stands.0, stands.1, (fail, refl, spend_one fail))
+  step (CloseOf number ∷ fs) pc [] pos caps small stands fits = (I.Close number stands.0, stands.1, (fail, refl, tick-spend fail))
   step (CloseOf number ∷ fs) pc (start ∷ numbers) pos caps small stands fits =
       let o = frames_rest s fs numbers pos (slice_set caps number (Some (start, pos))) in
-      (I.Close number stands.0, stands.1, (o, one_left fs stands.0 numbers pos (slice_set caps number (Some (start, pos))) stands.2 fits, spend_one o))
+      (I.Close number stands.0, stands.1, (o, one_left fs stands.0 numbers pos (slice_set caps number (Some (start, pos))) stands.2 fits, tick-spend o))
   step (AgainOf t least greatest greedy ∷ fs) pc [] pos caps small stands fits =
-      (I.Again stands.0 least greatest greedy stands.1, stands.2, (fail, refl, spend_one fail))
+      (I.Again stands.0 least greatest greedy stands.1, stands.2, (fail, refl, tick-spend fail))
   step (AgainOf t least greatest greedy ∷ fs) pc (start ∷ []) pos caps small stands fits =
-      (I.Again stands.0 least greatest greedy stands.1, stands.2, (fail, refl, spend_one fail))
+      (I.Again stands.0 least greatest greedy stands.1, stands.2, (fail, refl, tick-spend fail))
   step (AgainOf t least greatest greedy ∷ fs) pc (start ∷ count ∷ numbers) pos caps small stands fits = (
     I.Again stands.0 least greatest greedy stands.1,
     stands.2,
     again_left t stands.0 pc least greatest greedy stands.1 count fs numbers pos caps stands.3 stands.2 stands.4 fits (pos == start),
   )
-  step (ArriveOf ∷ fs) pc [] pos caps small stands fits = (I.Arrive stands.0, stands.1, (fail, refl, spend_one fail))
+  step (ArriveOf ∷ fs) pc [] pos caps small stands fits = (I.Arrive stands.0, stands.1, (fail, refl, tick-spend fail))
   step (ArriveOf ∷ fs) pc (end ∷ numbers) pos caps small stands fits =
       (I.Arrive stands.0, stands.1, test_left (pos == end) fs stands.0 numbers pos pos caps caps stands.2 (λ is_so. fits))

@@ -3,10 +3,14 @@ pub mod Parts
 pub mod Behind
 pub mod Sought
 pub mod Near
+pub mod Costs
 pub mod Emitted
 pub mod Instructions
+pub mod Rounds
 pub mod Runs
 pub mod Stacked
+pub mod Spanned
 pub mod Turns
 pub mod Firsts
 pub mod Known
+pub mod Ascii

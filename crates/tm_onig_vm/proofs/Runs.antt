@@ -1,25 +1,13 @@
 -- A run of the code keeps what is left of the search.
 use Rattle.std.proofs.Common.{◌≡◌, ℕ, ◌+◌, ◌<◌, ◌≤◌, Bool, true, false, List, [], ◌∷◌, ◌++◌, length, Option, Some, None, slice_get, refl, sym, ap, ◌∙◌, subst, arith}
 use Rattle.std.proofs.lemmas.Option.{none-some}
-use Rattle.tm_onig_search.specs.Outcomes.{Caps, Hit, Outcome, fail, tick, spend, or_else, or_else_at, accept}
+use Rattle.tm_onig_search.specs.Outcomes.{Caps, Hit, Outcome, fail, spend, or_else, or_else_at, accept}
 use Rattle.tm_onig_search.specs.Places.{Subject}
 use Rattle.tm_onig_search.proofs.Outcomes.{or_else_assoc, or_else-fail_left, or_else-fail_right, spend-spend}
 use Rattle.tm_onig_vm.specs.declared.code.Instr.{Instr}
 use Rattle.tm_onig_vm.specs.Machine.{Thread, Did, Succeeds, Goes, Waits, at_pc, exec, frames_rest, AllMean, WaitsFor, ActsFor, resumed, resumed_threads}
+use Rattle.tm_onig_vm.proofs.Costs.{cost_same, or_else-spend, tick-spend}
 use Rattle.tm_onig_vm.proofs.Instructions.{step}
-
-or_else-spend : (n : ℕ) (a b : Outcome) → or_else (spend n a) b ≡ spend n (or_else a b)
-or_else-spend n a b = go a.hit
-  where
-    go : (x : Option Hit) → or_else_at x (n + a.cost) b ≡ spend n (or_else_at x a.cost b)
-    go (Some h) = refl
-    go None = ap (λ (c : ℕ). let r : Outcome = record { hit = b.hit; cost = c } in r) (omega arith)
-
-cost_same : (o : Option Hit) (m n : ℕ) → m ≡ n → let a : Outcome = record { hit = o; cost = m } in a ≡ record { hit = o; cost = n }
-cost_same o m n e = ap (λ (c : ℕ). let a : Outcome = record { hit = o; cost = c } in a) e
-
-tick-spend : (o : Outcome) → tick o ≡ spend 1 o
-tick-spend o = cost_same o.hit _ _ (omega arith)
 
 or_else_cost : (a b : Outcome) → a.cost ≤ (or_else a b).cost
 or_else_cost a b = go a.hit

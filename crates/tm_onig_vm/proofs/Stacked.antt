@@ -5,7 +5,7 @@ use Rattle.std.proofs.lemmas.List.{append-nil, nil_from_length, reverse-append, 
 use Rattle.std.specs.List.{refill}
 use Rattle.tm_onig_search.specs.Outcomes.{Caps}
 use Rattle.tm_onig_search.specs.Search.{width_or}
-use Rattle.tm_onig_vm.specs.Machine.{Thread as Plain, at_pc, starts, behind_of}
+use Rattle.tm_onig_vm.specs.Machine.{Thread as Plain, at_pc, from_each, behind_of}
 use Rattle.tm_onig_vm.specs.declared.trail.Way.{Way}
 use Rattle.tm_onig_vm.specs.declared.trail.Mark.{Mark}
 use Rattle.tm_onig_vm.specs.declared.trail.Mark.TheVariants as M
@@ -56,6 +56,14 @@ module _ (old new : Trail) where
   pub way_kept : (way : Way) → Marked (M.Way way) → (caps : Caps) → groups_under new caps ≡ groups_under old caps
   unfolding groups_under undone
   way_kept way marks caps = rw (marks, reverse_push) refl
+
+  pub each_on : (pc lowest n : ℕ) → Marked (M.Each pc lowest n) → Same → (caps : Caps) → plains new caps ≡ from_each pc (numbers_of old) caps lowest n ++ plains old caps
+  unfolding plains ways
+  each_on pc lowest n marks numbers caps = rw (marks, numbers, reverse_push) refl
+
+  pub each_kept : (pc lowest n : ℕ) → Marked (M.Each pc lowest n) → (caps : Caps) → groups_under new caps ≡ groups_under old caps
+  unfolding groups_under undone
+  each_kept pc lowest n marks caps = rw (marks, reverse_push) refl
 
   pub put_on : (number : ℕ) → Marked M.Put → new.numbers.items ≡ old.numbers.items ++ number ∷ [] → (caps : Caps) → plains new caps ≡ plains old caps
   unfolding plains ways
@@ -118,6 +126,7 @@ pub record Keeps (base trail : Trail) (marks : List Mark) : Type 0 where
 pub undone-first : (mark : Mark) (marks : List Mark) (caps : Caps) → undone (mark ∷ marks) caps ≡ undone marks (undone (mark ∷ []) caps)
 unfolding undone
 undone-first (M.Way way) marks caps = refl
+undone-first (M.Each pc lowest n) marks caps = refl
 undone-first (M.Group number was) marks caps = refl
 undone-first M.Put marks caps = refl
 undone-first (M.Taken number) marks caps = refl
@@ -158,6 +167,10 @@ pub way_says : (way : Way) (caps : Caps) → undone (M.Way way ∷ []) caps ≡ 
 unfolding undone
 way_says way caps = refl
 
+pub each_says : (pc lowest n : ℕ) (caps : Caps) → undone (M.Each pc lowest n ∷ []) caps ≡ caps
+unfolding undone
+each_says pc lowest n caps = refl
+
 pub put_says : (caps : Caps) → undone (M.Put ∷ []) caps ≡ caps
 unfolding undone
 put_says caps = refl
@@ -176,21 +189,32 @@ each_more f targets i old new base some low was is =
     let more : drop (i - 1) targets ≡ first ∷ drop i targets = drop_more targets (i - 1) 0 inside ∙ ap (λ (j : ℕ). first ∷ drop j targets) next in
     is ∙ ap (λ (ts : List Plain). f first ∷ ts) was ∙ ap (λ (l : List ℕ). map f l ++ base) (sym more)
 
+-- the last position is gone from first
+pub each_first : (pc : ℕ) (numbers : List ℕ) (caps : Caps) (lowest n m : ℕ) → n ≡ suc m → from_each pc numbers caps lowest n ≡ at_pc pc numbers (lowest + m) caps ∷ from_each pc numbers caps lowest m
+each_first pc numbers caps lowest n m is = rw is refl
+
+pub each_none : (pc : ℕ) (numbers : List ℕ) (caps : Caps) (lowest n : ℕ) → n ≡ 0 → from_each pc numbers caps lowest n ≡ []
+each_none pc numbers caps lowest n is = rw is refl
+
+-- the last position is taken
+pub each_taken : (was popped new : Trail) (pc lowest n p : ℕ) (old : List Plain) (caps : Caps) → was.marks.items ≡ popped.marks.items ++ M.Each pc lowest n ∷ [] → was.numbers.items ≡ popped.numbers.items → 0 < n →
+    p ≡ lowest + (n - 1) → plains was caps ≡ old → plains new caps ≡ from_each pc (numbers_of popped) caps lowest (n - 1) ++ plains popped caps → new.numbers.items ≡ popped.numbers.items →
+    old ≡ at_pc pc (numbers_of new) p caps ∷ plains new caps
+each_taken was popped new pc lowest n p old caps marks numbers some at is left same =
+    let more : n ≡ suc (n - 1) = omega arith in
+    sym is ∙ each_on popped was pc lowest n marks numbers caps ∙ ap (λ (ts : List Plain). ts ++ plains popped caps) (each_first pc (numbers_of popped) caps lowest n (n - 1) more)
+    ∙ ap₂ (λ (ns : List ℕ) (ts : List Plain). at_pc pc (reverse ns) (lowest + (n - 1)) caps ∷ ts) (sym same) (sym left)
+    ∙ ap (λ (q : ℕ). at_pc pc (numbers_of new) q caps ∷ plains new caps) (sym at)
+
+-- no position is left
+pub each_over : (was popped : Trail) (pc lowest n : ℕ) (caps : Caps) → was.marks.items ≡ popped.marks.items ++ M.Each pc lowest n ∷ [] → was.numbers.items ≡ popped.numbers.items → n ≡ 0 → plains was caps ≡ plains popped caps
+each_over was popped pc lowest n caps marks numbers none =
+    each_on popped was pc lowest n marks numbers caps ∙ ap (λ (ts : List Plain). ts ++ plains popped caps) (each_none pc (numbers_of popped) caps lowest n none)
+
 -- the starts of a look-behind
-pub starts_none : (f : ℕ → Plain) (lowest n : ℕ) (ts : List Plain) → n ≡ 0 → ts ≡ [] → ts ≡ map f (starts lowest n)
-starts_none f lowest n ts none empty = rw (none, empty) refl
-
-pub starts_more : (f : ℕ → Plain) (lowest start : ℕ) (old new : List Plain) → lowest ≤ start → old ≡ map f (starts lowest (start - lowest)) → new ≡ f start ∷ old →
-    new ≡ map f (starts lowest (start + 1 - lowest))
-starts_more f lowest start old new low was is =
-    let n = start - lowest in
-    let more : suc n ≡ start + 1 - lowest = omega arith in
-    let here : start ≡ lowest + n = omega arith in
-    is ∙ ap₂ (λ (q : ℕ) (ts : List Plain). f q ∷ ts) here was ∙ ap (λ (m : ℕ). map f (starts lowest m)) more
-
 module _ (first least : ℕ) (greatest : Option ℕ) (pos : ℕ) (caps : Caps) (far : ℕ) (ts : List Plain) (far_is : far ≡ min pos (width_or greatest pos)) where
   pub behind_none : ts ≡ [] → far < least → ts ≡ behind_of first least greatest pos caps
   behind_none empty high = rw (empty, ← far_is, lt-ltb far least high) refl
 
-  pub behind_some : least ≤ far → ts ≡ map (λ q. at_pc first (pos ∷ []) q caps) (starts (pos - far) (pos - least + 1 - (pos - far))) → ts ≡ behind_of first least greatest pos caps
+  pub behind_some : least ≤ far → ts ≡ from_each first (pos ∷ []) caps (pos - far) (pos - least + 1 - (pos - far)) → ts ≡ behind_of first least greatest pos caps
   behind_some low is = rw (← far_is, le-ltb far least low) is

@@ -1,16 +1,27 @@
 -- The code of a tree.
 use Rattle.tm_onig_vm.specs.declared.first.Firsts.{Firsts}
 use Rattle.tm_onig_vm.specs.First.{AreFirsts}
-use Rattle.std.specs.Prelude.{◌≡◌, ℕ, ◌+◌, length, Bool, true, false, List, [], ◌∷◌, Some, slice_get, option_map}
+use Rattle.std.specs.Prelude.{◌≡◌, ◌⊎◌, Option, ℕ, ◌+◌, length, Bool, true, false, List, [], ◌∷◌, Some, slice_get, option_map}
 use Rattle.tm_onig_class.specs.Tree.{Tree, Empty, Char, Any, InSet, Cat, Alt, Group, Atomic, Repeat, Look, Back, Holds, Trees, NoTrees, More}
 use Rattle.tm_onig_search.specs.Widths.{least_width, greatest_width}
 use Rattle.tm_onig_search.specs.Find.{last_group}
 use Rattle.tm_onig_vm.specs.declared.code.Instr.{Instr}
 use Rattle.tm_onig_vm.specs.declared.code.Instr.TheVariants as I
+use Rattle.tm_onig_vm.specs.declared.singles.Single.{Single}
 use Rattle.tm_onig_vm.specs.Near.{near}
+use Rattle.tm_onig_vm.specs.Single.{single_tree, fits}
 use Rattle.tm_onig_vm.specs.Size.{code_size}
 
 module _ (code : List Instr) where
+  -- a greedy loop over one character
+  abbrev pub SpanCode : Tree → ℕ → Option ℕ → Bool → ℕ → ℕ → Type 0
+  SpanCode t least greatest greedy pc next =
+      (one : Single) × (t ≡ single_tree one) × (greedy ≡ true) × (fits least greatest ≡ true) × (slice_get code pc ≡ Some (I.Span one least greatest next))
+
+  -- a look at one character
+  abbrev pub PeekCode : Tree → Bool → Bool → ℕ → ℕ → Type 0
+  PeekCode t ahead negative pc next = (one : Single) × (t ≡ single_tree one) × (slice_get code pc ≡ Some (I.Peek one ahead negative next))
+
   abbrev mutual
     -- the code of the tree begins at pc, and goes on at next
     pub Code : Tree → ℕ → ℕ → Type 0
@@ -25,13 +36,16 @@ module _ (code : List Instr) where
     Code (Atomic t) pc next =
         (first last : ℕ) × (slice_get code pc ≡ Some (I.Ahead first false false next)) × Code t first last × (slice_get code last ≡ Some I.Accept)
     Code (Repeat t least greatest greedy) pc next =
-        (first last : ℕ) × (slice_get code pc ≡ Some (I.Loop first least greatest greedy next)) × Code t first last
-        × (slice_get code last ≡ Some (I.Again first least greatest greedy next))
+        SpanCode t least greatest greedy pc next
+        ⊎ ((first last : ℕ) × (slice_get code pc ≡ Some (I.Loop first least greatest greedy next)) × Code t first last
+        × (slice_get code last ≡ Some (I.Again first least greatest greedy next)))
     Code (Look t true negative) pc next =
-        (first last : ℕ) × (slice_get code pc ≡ Some (I.Ahead first negative true next)) × Code t first last × (slice_get code last ≡ Some I.Accept)
+        PeekCode t true negative pc next
+        ⊎ ((first last : ℕ) × (slice_get code pc ≡ Some (I.Ahead first negative true next)) × Code t first last × (slice_get code last ≡ Some I.Accept))
     Code (Look t false negative) pc next =
-        (first last end : ℕ) × (slice_get code pc ≡ Some (I.Behind first negative (near (least_width t)) (option_map near (greatest_width t)) next)) × Code t first last
-        × (slice_get code last ≡ Some (I.Arrive end)) × (slice_get code end ≡ Some I.Accept)
+        PeekCode t false negative pc next
+        ⊎ ((first last end : ℕ) × (slice_get code pc ≡ Some (I.Behind first negative (near (least_width t)) (option_map near (greatest_width t)) next)) × Code t first last
+        × (slice_get code last ≡ Some (I.Arrive end)) × (slice_get code end ≡ Some I.Accept))
     Code (Back groups fold) pc next = slice_get code pc ≡ Some (I.Read groups fold next)
     Code (Holds place) pc next = slice_get code pc ≡ Some (I.Place place next)
 

@@ -1,13 +1,14 @@
 -- What one instruction does, and what a place in the code stands for.
-use Rattle.std.specs.Prelude.{◌≡◌, ℕ, zero, suc, ◌+◌, ◌-◌, ◌≤◌, min, Bool, true, false, List, [], ◌∷◌, length, map, Option, Some, None, slice_get, slice_set, nat_lt, ◌==◌, if◌then◌else◌}
+use Rattle.std.specs.Prelude.{◌≡◌, ℕ, zero, suc, ◌+◌, ◌*◌, ◌-◌, ◌≤◌, min, not, Bool, true, false, List, [], ◌∷◌, length, map, Option, Some, None, slice_get, slice_set, nat_lt, ◌==◌, if◌then◌else◌}
 use Rattle.tm_onig_class.specs.Tree.{Tree}
 use Rattle.tm_onig_search.specs.Outcomes.{Caps, Hit, Outcome, Rest, tick, fail, spend, or_else, accept, and_then, unless}
-use Rattle.tm_onig_search.specs.Places.{Subject, passes, matches, in_set, is_any, begins, holds}
+use Rattle.tm_onig_search.specs.Places.{Subject, passes, matches, in_set, is_any, begins, before, holds}
 use Rattle.tm_onig_search.specs.Search.{close, at_goal, is_at, again, last_set, width_or, search_tree}
 use Rattle.std.specs.Prelude.{slice_range, drop}
 use Rattle.tm_onig_vm.specs.declared.code.Instr.{Instr}
 use Rattle.tm_onig_vm.specs.declared.code.Instr.TheVariants as I
 use Rattle.tm_onig_vm.specs.Code.{Code}
+use Rattle.tm_onig_vm.specs.Single.{single_has, run_of, most_of}
 
 -- the body alone gave o: whether it must not match, and whether the search goes on where it stood
 abbrev pub resumed : Bool → Bool → Outcome → Rest → Rest
@@ -63,15 +64,36 @@ abbrev pub starts : ℕ → ℕ → List ℕ
 starts lowest zero = []
 starts lowest (suc n) = (lowest + n) ∷ starts lowest n
 
+-- a thread from each of n positions from the lowest on, the last one first
+abbrev pub from_each : ℕ → List ℕ → Caps → ℕ → ℕ → List Thread
+from_each pc numbers caps lowest n = map (λ q. at_pc pc numbers q caps) (starts lowest n)
+
+-- A greedy loop over one character that passed k times: each round is three cases, and one more ends the rounds
+-- where another might be made. It goes on behind the last character first, and last behind the least number of them.
+abbrev pub span_of : ℕ → ℕ → Option ℕ → ℕ → List ℕ → ℕ → Caps → Did
+span_of k least greatest next numbers pos caps =
+    Goes (1 + 3 * k + (if is_at k greatest then 0 else 1)) (from_each next numbers caps (pos + least) (k + 1 - least))
+
+-- the cases of a look-behind at one character: none where nothing stands before
+abbrev pub cost_behind : ℕ → Bool → ℕ
+cost_behind pos found = if pos == 0 then 1 else (if found then 4 else 2)
+
 -- the threads of a look-behind, the nearest start first, each with the position that it must come to
 abbrev pub behind_of : ℕ → ℕ → Option ℕ → ℕ → Caps → List Thread
 behind_of first least greatest pos caps =
     let far = min pos (width_or greatest pos) in
-    if nat_lt far least then [] else map (λ q. at_pc first (pos ∷ []) q caps) (starts (pos - far) (pos - least + 1 - (pos - far)))
+    if nat_lt far least then [] else from_each first (pos ∷ []) caps (pos - far) (pos - least + 1 - (pos - far))
 
--- a thread that goes on where the test holds
+-- a thread that goes on where the test holds, after so many cases
+abbrev pub goes_for : ℕ → Bool → Thread → Did
+goes_for cost test t = Goes cost (if test then t ∷ [] else [])
+
 abbrev pub goes_if : Bool → Thread → Did
-goes_if test t = Goes 1 (if test then t ∷ [] else [])
+goes_if test t = goes_for 1 test t
+
+-- a look at one character, which was found or not
+abbrev pub peek_of : ℕ → Bool → Bool → Thread → Did
+peek_of cost negative found t = goes_for cost (if negative then not found else found) t
 
 module _ (s : Subject) where
   -- behind the text of a group that is set
@@ -87,6 +109,11 @@ module _ (s : Subject) where
   exec (I.Char c fold next) numbers pos caps = goes_if (passes (matches fold c) (slice_get s.line pos)) (at_pc next numbers (pos + 1) caps)
   exec (I.Any newline next) numbers pos caps = goes_if (passes (is_any newline) (slice_get s.line pos)) (at_pc next numbers (pos + 1) caps)
   exec (I.Member set fold next) numbers pos caps = goes_if (passes (in_set set fold) (slice_get s.line pos)) (at_pc next numbers (pos + 1) caps)
+  exec (I.Span one least greatest next) numbers pos caps = span_of (run_of (single_has one) (most_of greatest s.line) (drop pos s.line)) least greatest next numbers pos caps
+  exec (I.Peek one true negative next) numbers pos caps =
+      let found = passes (single_has one) (slice_get s.line pos) in peek_of (if found then 3 else 2) negative found (at_pc next numbers pos caps)
+  exec (I.Peek one false negative next) numbers pos caps =
+      let found = passes (single_has one) (before s.line pos) in peek_of (cost_behind pos found) negative found (at_pc next numbers pos caps)
   exec (I.Step next) numbers pos caps = Goes 1 (at_pc next numbers pos caps ∷ [])
   exec (I.Choice targets) numbers pos caps = Goes 1 (map (λ p. at_pc p numbers pos caps) targets)
   exec (I.Open next) numbers pos caps = Goes 1 (at_pc next (pos ∷ numbers) pos caps ∷ [])

@@ -9,7 +9,7 @@ use Rattle.tm_onig_vm.specs.declared.trail.Mark.TheVariants as M
 use Rattle.tm_onig_vm.specs.declared.trail.Trail.{Trail}
 use Rattle.tm_onig_vm.specs.declared.machine.Acted.{Acted}
 use Rattle.tm_onig_vm.specs.declared.machine.Acted.TheVariants as A
-use Rattle.tm_onig_vm.specs.Machine.{Thread as Plain, Did, Succeeds, Goes, Waits, at_pc, exec}
+use Rattle.tm_onig_vm.specs.Machine.{Thread as Plain, Did, Succeeds, Goes, Waits, at_pc, from_each, exec}
 
 abbrev pub plain : Way → List ℕ → Caps → Plain
 plain way numbers caps = at_pc way.pc numbers way.pos caps
@@ -18,6 +18,7 @@ plain way numbers caps = at_pc way.pc numbers way.pos caps
 unfoldable pub ways : List Mark → List ℕ → Caps → List Plain
 ways [] numbers caps = []
 ways (M.Way way ∷ marks) numbers caps = plain way numbers caps ∷ ways marks numbers caps
+ways (M.Each pc lowest n ∷ marks) numbers caps = from_each pc numbers caps lowest n ++ ways marks numbers caps
 ways (M.Group number was ∷ marks) numbers caps = ways marks numbers (slice_set caps number was)
 ways (M.Put ∷ marks) numbers caps = ways marks (drop 1 numbers) caps
 ways (M.Taken number ∷ marks) numbers caps = ways marks (number ∷ numbers) caps
@@ -26,6 +27,7 @@ ways (M.Taken number ∷ marks) numbers caps = ways marks (number ∷ numbers) c
 unfoldable pub undone : List Mark → Caps → Caps
 undone [] caps = caps
 undone (M.Way way ∷ marks) caps = undone marks caps
+undone (M.Each pc lowest n ∷ marks) caps = undone marks caps
 undone (M.Group number was ∷ marks) caps = undone marks (slice_set caps number was)
 undone (M.Put ∷ marks) caps = undone marks caps
 undone (M.Taken number ∷ marks) caps = undone marks caps

@@ -17,6 +17,7 @@ ghost use Rattle.tm_onig_vm.specs.Code.{Code, AheadCode, BehindCode, RowCode, An
 ghost use Rattle.tm_onig_vm.specs.Size.{code_size, code_sizes};
 
 use crate::copies::copy_set;
+use crate::singles::{Single, single_of, span_of};
 use crate::widths;
 use sqlite_items::Items;
 use std::alloc::Global;
@@ -43,6 +44,20 @@ pub enum Instr {
     Member {
         set: Set,
         fold: bool,
+        next: u32,
+    },
+    /// A greedy loop over one character.
+    Span {
+        one: Single,
+        least: u32,
+        greatest: Option<u32>,
+        next: u32,
+    },
+    /// A look at one character.
+    Peek {
+        one: Single,
+        ahead: bool,
+        negative: bool,
         next: u32,
     },
     Step {
@@ -195,6 +210,17 @@ fn emit(
             greatest,
             greedy,
         } => {
+            if let Some(one) = span_of(body, *least, *greatest, *greedy)? {
+                return push(
+                    code,
+                    Instr::Span {
+                        one,
+                        least: *least,
+                        greatest: *greatest,
+                        next,
+                    },
+                );
+            }
             let last = push(code, Instr::Hole)?;
             let first = emit(alloc, code, body, last)?;
             patch(
@@ -224,6 +250,17 @@ fn emit(
             ahead,
             negative,
         } => {
+            if let Some(one) = single_of(body)? {
+                return push(
+                    code,
+                    Instr::Peek {
+                        one,
+                        ahead: *ahead,
+                        negative: *negative,
+                        next,
+                    },
+                );
+            }
             if *ahead {
                 return emit_ahead(alloc, code, body, *negative, true, next);
             }

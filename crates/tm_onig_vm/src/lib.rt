@@ -15,6 +15,8 @@ mod machine;
 mod places;
 pub mod program;
 mod running;
+mod singles;
 pub mod starts;
 mod trail;
 mod widths;
+mod words;

@@ -2,20 +2,22 @@
 //!
 //! Each function carries out one kind of instruction for the way that was on top, and says so in the
 //! words of `specs/Machine.antt`.
-ghost use Rattle.std.specs.Prelude.{◌≡◌, ℕ, ◌-◌, ◌+◌, ◌^◌, ◌<◌, ◌≤◌, ◌==◌, Option, List, [], ◌∷◌, ◌++◌, length, map, reverse, slice_get, slice_set, option_map, min, nat_lt, Some, OnOk, IfOk, IsErrOf, if◌then◌else◌};
+ghost use Rattle.std.specs.Prelude.{◌≡◌, ℕ, ◌-◌, ◌+◌, ◌^◌, ◌<◌, ◌≤◌, ◌==◌, Option, List, [], ◌∷◌, ◌++◌, length, map, reverse, slice_get, slice_set, option_map, min, nat_lt, not, Some, OnOk, IfOk, IsErrOf, if◌then◌else◌};
 ghost use Rattle.std.specs.Option.{option_copied};
 ghost use Rattle.tm_onig_search.specs.Places.{Subject, passes, matches, in_set, is_any, holds};
 ghost use Rattle.tm_onig_search.specs.Search.{is_at, last_set, width_or};
 ghost use Rattle.tm_onig_vm.specs.Anchors.{subject_of};
-ghost use Rattle.tm_onig_vm.specs.Machine.{at_pc, turn_of, behind_of, goes_if, read_of};
+ghost use Rattle.tm_onig_vm.specs.Machine.{at_pc, turn_of, behind_of, goes_for, goes_if, read_of, exec};
 ghost use Rattle.tm_onig_vm.specs.Threads.{plain, plains, numbers_of, groups_under, Does, Acts};
 
 use crate::code::Instr;
 use crate::groups::{group_at, last_set, set_group};
 use crate::places::{has_any, has_char, has_member, is_at_place, stands_at, text_of};
+use crate::singles::{Single, run_length, stands};
 use crate::starts::Anchors;
 use crate::trail::{
-    Mark, Trail, Way, behind_trail, blank_trail, go, go_to_each, put_number, take_number, turn,
+    Mark, Trail, Way, behind_trail, blank_trail, go, go_from_each, go_to_each, put_number, reaches,
+    take_number, turn,
 };
 use std::alloc::Global;
 use tm_defs::memory::OutOfMemory;
@@ -41,15 +43,109 @@ pub enum Acted {
     Waits(Waiting),
 }
 
+/// Goes on where the test holds, after so many cases.
+fn step_for(cost: u64, test: bool, next: u32, at: usize) -> Acted
+    requires { 0 < cost }
+    ensures does { (trail : Trail) (pos : ℕ) (caps : List (Option (ℕ × ℕ))) → Does (goes_for cost test (at_pc next (numbers_of trail) at caps)) result pos trail caps trail caps }
+{
+    if test {
+        Acted::Goes(cost, Way { pc: next, pos: at })
+    } else {
+        Acted::Costs(cost)
+    }
+}
+
 /// Goes on where the test holds.
 fn step_if(test: bool, next: u32, at: usize) -> Acted
     ensures does { (trail : Trail) (pos : ℕ) (caps : List (Option (ℕ × ℕ))) → Does (goes_if test (at_pc next (numbers_of trail) at caps)) result pos trail caps trail caps }
 {
-    if test {
-        Acted::Goes(1, Way { pc: next, pos: at })
-    } else {
-        Acted::Costs(1)
+    step_for(1, test, next, at)
+}
+
+/// Whether the search goes on behind a look whose body was found or not.
+fn goes_on(negative: bool, found: bool) -> bool
+    ensures { result ≡ (if negative then not found else found) }
+{
+    if negative { !found } else { found }
+}
+
+/// The cases of a look ahead at one character.
+fn cost_ahead(found: bool) -> u64
+    ensures is { result ≡ (if found then 3 else 2) }
+    ensures some { 0 < result }
+{
+    if found { 3 } else { 2 }
+}
+
+/// The cases of a look-behind at one character, where there is one.
+fn cost_back(found: bool) -> u64
+    ensures is { result ≡ (if found then 4 else 2) }
+    ensures some { 0 < result }
+{
+    if found { 4 } else { 2 }
+}
+
+/// Looks at the next character, or at the one before.
+fn peek_act(
+    line: &[char],
+    one: &Single,
+    ahead: bool,
+    negative: bool,
+    next: u32,
+    pos: usize,
+) -> Acted
+    ensures { (s : Subject) (trail : Trail) (caps : List (Option (ℕ × ℕ))) → s.line ≡ line.now →
+        Acts s (Instr.Peek one.now ahead negative next) pos trail caps trail caps result }
+{
+    if ahead {
+        let found = stands(line, pos, one);
+        return step_for(cost_ahead(found), goes_on(negative, found), next, pos);
     }
+    if pos == 0 {
+        return step_for(1, goes_on(negative, false), next, pos);
+    }
+    let found = stands(line, pos - 1, one);
+    step_for(cost_back(found), goes_on(negative, found), next, pos)
+}
+
+/// The one case more where another round might have been made.
+fn cost_of_end(count: u32, greatest: Option<u32>) -> u64
+    ensures is { result ≡ (if is_at count greatest then 0 else 1) }
+    ensures few { result ≤ 1 }
+{
+    if reaches(count, greatest) { 0 } else { 1 }
+}
+
+/// Makes all rounds of a greedy loop over one character, and goes on behind the last of them.
+fn span_act(
+    line: &[char],
+    one: &Single,
+    least: u32,
+    greatest: Option<u32>,
+    next: u32,
+    pos: usize,
+    trail: &mut Trail,
+) -> Result<Acted, OutOfMemory>
+    requires within { pos ≤ length line.now }
+    requires small { length line.now < 2 ^ 31 }
+    ensures does { (s : Subject) (caps : List (Option (ℕ × ℕ))) → s.line ≡ line.now →
+        IfOk result (λ acted. Acts s (Instr.Span one.now least greatest next) pos trail.old caps trail.new caps acted) }
+    ensures kept { OnOk result ((caps : List (Option (ℕ × ℕ))) → groups_under trail.new caps ≡ groups_under trail.old caps) }
+{
+    let count = run_length(line, pos, one, greatest);
+    let cost = 1 + 3 * count as u64 + cost_of_end(count as u32, greatest);
+    let least = least as usize;
+    if count < least {
+        return Ok(Acted::Costs(cost));
+    }
+    go_from_each(trail, next, (pos + least) as u32, (count - least) as u32)?;
+    Ok(Acted::Goes(
+        cost,
+        Way {
+            pc: next,
+            pos: pos + count,
+        },
+    ))
 }
 
 /// Goes on behind the text of the group, where it stands at the position.
@@ -166,6 +262,18 @@ pub(crate) fn act(
             let test = has_member(line, pos, set, *fold);
             Ok(step_if(test, *next, pos + 1))
         }
+        Instr::Span {
+            one,
+            least,
+            greatest,
+            next,
+        } => span_act(line, one, *least, *greatest, *next, pos, trail),
+        Instr::Peek {
+            one,
+            ahead,
+            negative,
+            next,
+        } => Ok(peek_act(line, one, *ahead, *negative, *next, pos)),
         Instr::Step { next } => { Ok(Acted::Goes(1, Way { pc: *next, pos })) }
         Instr::Choice { targets } => {
             go_to_each(trail, targets.as_slice(), pos)?;

@@ -6,7 +6,7 @@ ghost use Rattle.tm_onig_search.specs.Places.{passes, matches, in_set, is_any, b
 ghost use Rattle.tm_onig_vm.specs.Anchors.{subject_of};
 
 use crate::starts::Anchors;
-use tm_onig_class::listed;
+use crate::words;
 use tm_onig_class::patterns::Position;
 use tm_onig_class::sets::Set;
 use ucd_case::simple_fold;
@@ -69,7 +69,7 @@ fn is_word_char(o: Option<char>) -> bool
     ensures { result ≡ is_word o }
 {
     match o {
-        Some(c) => listed::is_word(c),
+        Some(c) => words::is_word(c),
         None => false,
     }
 }

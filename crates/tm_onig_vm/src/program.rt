@@ -77,6 +77,13 @@ impl Prog {
     {
         admits(behind_of(&self.firsts, behind), class)
     }
+
+    /// The pattern that the program was made of.
+    pub fn pattern(&self) -> &Pattern
+        ensures { result.now ≡ self.now }
+    {
+        &self.pattern
+    }
 }
 
 /// What searches take beside the line: the trail and the groups of one, which the next one uses again.
@@ -168,7 +175,7 @@ fn attempt_from(
 pub fn attempt(
     alloc: Global,
     prog: &Prog,
-    line: &Line,
+    line: &[char],
     anchors: Anchors,
     start: usize,
     room: &mut Room,
@@ -184,7 +191,7 @@ pub fn attempt(
     reset(&mut room.caps, prog.groups as usize + 1)?;
     match attempt_from(
         alloc,
-        line.as_slice(),
+        line,
         anchors,
         prog,
         start,
@@ -223,7 +230,7 @@ fn attempt_if(
     if !prog.may_start(behind, next) {
         return Ok(None);
     }
-    attempt(alloc, prog, line, anchors, start, room, budget)
+    attempt(alloc, prog, chars, anchors, start, room, budget)
 }
 
 /// The groups of the match with the least start from `from` on, the whole match first, or none where

@@ -7,7 +7,7 @@ ghost use Rattle.tm_onig_search.specs.Starts.{Sits};
 ghost use Rattle.tm_onig_vm.specs.Anchors.{subject_of};
 ghost use Rattle.tm_onig_vm.specs.First.{next_class};
 
-use tm_onig_class::listed::is_word;
+use crate::words::is_word;
 
 /// Where a search for a match began, and whether `\A` may match at 0 and `\G` where it began.
 #[derive(Clone, Copy)]

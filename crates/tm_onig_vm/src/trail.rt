@@ -6,7 +6,7 @@
 //! way, and copies nothing.
 ghost use Rattle.std.specs.Prelude.{◌≡◌, ℕ, ◌-◌, ◌+◌, ◌^◌, ◌<◌, ◌≤◌, List, Option, [], ◌∷◌, ◌++◌, map, reverse, option_map, min, nat_lt, Some, slice_set, OnOk, IfOk, MatchOption, if◌then◌else◌};
 ghost use Rattle.tm_onig_search.specs.Search.{is_at, width_or};
-ghost use Rattle.tm_onig_vm.specs.Machine.{at_pc, turn_of, behind_of, resumed_threads};
+ghost use Rattle.tm_onig_vm.specs.Machine.{at_pc, from_each, turn_of, behind_of, resumed_threads};
 ghost use Rattle.tm_onig_vm.specs.Threads.{plain, plains, numbers_of, groups_under, hit_at};
 
 use crate::groups::{group_at, set_group};
@@ -24,6 +24,12 @@ pub struct Way {
 #[derive(Clone, Copy)]
 pub enum Mark {
     Way(Way),
+    /// A way to the same place from each of so many positions from the lowest on, the last one first.
+    Each {
+        pc: u32,
+        lowest: u32,
+        count: u32,
+    },
     /// The group was set, and was this before.
     Group {
         number: u32,
@@ -46,7 +52,7 @@ pub struct Trail {
 }
 
 /// Whether so many rounds are the most that a loop may make.
-fn reaches(count: u32, greatest: Option<u32>) -> bool
+pub(crate) fn reaches(count: u32, greatest: Option<u32>) -> bool
     ensures { result ≡ is_at count greatest }
 {
     match greatest {
@@ -72,6 +78,24 @@ pub(crate) fn go(trail: &mut Trail, pc: u32, pos: usize) -> Result<(), OutOfMemo
     ensures numbers { OnOk result (trail.new.numbers.items ≡ trail.old.numbers.items) }
 {
     trail.marks.push(Mark::Way(Way { pc, pos }))?;
+    Ok(())
+}
+
+/// Puts a way from each of so many positions on top, the last position topmost.
+pub(crate) fn go_from_each(
+    trail: &mut Trail,
+    pc: u32,
+    lowest: u32,
+    count: u32,
+) -> Result<(), OutOfMemory>
+    ensures ways { OnOk result ((caps : List (Option (ℕ × ℕ))) → plains trail.new caps ≡ from_each pc (numbers_of trail.old) caps lowest count ++ plains trail.old caps) }
+    ensures kept { OnOk result ((caps : List (Option (ℕ × ℕ))) → groups_under trail.new caps ≡ groups_under trail.old caps) }
+    ensures numbers { OnOk result (trail.new.numbers.items ≡ trail.old.numbers.items) }
+{
+    if count == 0 {
+        return Ok(());
+    }
+    trail.marks.push(Mark::Each { pc, lowest, count })?;
     Ok(())
 }
 
@@ -120,6 +144,13 @@ pub(crate) fn next_way(
     'marks: while let Some(mark) = trail.marks.pop() {
         match mark {
             Mark::Way(way) => return Ok(Some(way)),
+            Mark::Each { pc, lowest, count } => {
+                if count > 0 {
+                    go_from_each(trail, pc, lowest, count - 1)?;
+                    let pos = lowest as usize + (count - 1) as usize;
+                    return Ok(Some(Way { pc, pos }));
+                }
+            }
             Mark::Group { number, was } => set_group(caps, number, was),
             Mark::Put => {
                 let _number = trail.numbers.pop();
@@ -144,6 +175,7 @@ pub(crate) fn undo_all(trail: &mut Trail, caps: &mut [Option<(u32, u32)>])
                 was: before,
             } => set_group(caps, number, before),
             Mark::Way(_) => {}
+            Mark::Each { .. } => {}
             Mark::Put => {}
             Mark::Taken { .. } => {}
         }
@@ -161,6 +193,7 @@ fn keep_groups(trail: &mut Trail, done: &Trail) -> Result<(), OutOfMemory>
         match mark {
             Mark::Group { .. } => trail.marks.push(mark)?,
             Mark::Way(_) => {}
+            Mark::Each { .. } => {}
             Mark::Put => {}
             Mark::Taken { .. } => {}
         }
@@ -259,9 +292,9 @@ pub(crate) fn behind_trail(
         return Ok(trail);
     }
     put_number(&mut trail, pos as u32)?;
-    for start in pos - far..pos - least + 1 {
-        go(&mut trail, body, start)?;
-    }
+    let lowest = pos - far;
+    let count = pos - least + 1 - lowest;
+    go_from_each(&mut trail, body, lowest as u32, count as u32)?;
     Ok(trail)
 }
 

@@ -1,5 +1,5 @@
 use Rattle.std.proofs.Common.{◌≡◌, map, take}
-use Rattle.tm_onig_parse.specs.Reading.{parsed}
+use Rattle.tm_onig_parse.specs.Parsed.{parsed}
 use Rattle.tm_onig_scan.specs.Winner.{trees_of}
 use Rattle.tm_onig_scan.proofs.Scanner.build.Given as goal
 

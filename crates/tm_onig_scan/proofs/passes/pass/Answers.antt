@@ -1,63 +1,56 @@
-use Rattle.std.proofs.Common.{◌+◌, ◌-◌, ◌≤◌, List, Option, sym, subst, ◌∙◌, length, arith}
+use Rattle.std.proofs.Common.{ℕ, ◌+◌, ◌-◌, ◌≤◌, List, Option, subst, length, arith}
+use Rattle.std.specs.Prelude.{Result}
+use Rattle.tm_onig_search.specs.Outcomes.{Caps}
+use Rattle.tm_onig_vm.specs.declared.fault.FindFault.{FindFault}
 use Rattle.std.specs.Option.{option_copied}
 use Rattle.tm_onig_class.specs.Tree.{Tree}
 use Rattle.tm_onig_search.specs.Places.{Subject}
-use Rattle.tm_onig_vm.specs.Anchors.{subject_of}
-use Rattle.tm_onig_scan.specs.Winner.{trees_of}
-use Rattle.tm_onig_scan.specs.Pass.{Pass, pass_or, pass_here, pass_from, listed_in}
-use Rattle.tm_onig_scan.proofs.Tried.{IsPassing, passing_on, passing_won, passing_falls, passing_over, from_at, from_done}
+use Rattle.tm_onig_scan.specs.Asked.{searched_in, subject_in, trees_in}
+use Rattle.tm_onig_scan.specs.Pass.{Pass, Tries, pass_or, pass_here, pass_from}
+use Rattle.tm_onig_scan.proofs.Tried.{IsPassing, tries_on, tries_won, tries_fails, tries_ends, from_at, from_done}
 use Rattle.tm_onig_scan.proofs.passes.pass.Goals as goal
 use Rattle.tm_onig_scan.proofs.passes.pass.Goals.{After-try_listed}
 
 module _ (c : After-try_listed) where
   abbrev s : Subject
-  s = subject_of c.args.line.now c.args.anchors
+  s = subject_in c.args.job.now
 
   abbrev patterns : List (Option Tree)
-  patterns = listed_in (trees_of c.args.programs.now) (option_copied c.args.candidates)
+  patterns = searched_in (trees_in c.args.job.now) (option_copied c.args.list) c.args.instead
 
   abbrev all : Pass
-  all = pass_from s (length c.args.line.now + 1 - c.args.anchors.first) c.args.anchors.first patterns
+  all = pass_from s (length c.args.job.now.asked.text.now + 1 - c.args.begin) c.args.begin patterns
 
   abbrev one : Pass
   one = pass_here s c.loop-start.start 0 patterns
 
   abbrev later : Pass
-  later = pass_from s (length c.args.line.now + 1 - (c.loop-start.start + 1)) (c.loop-start.start + 1) patterns
+  later = pass_from s (length c.args.job.now.asked.text.now + 1 - (c.loop-start.start + 1)) (c.loop-start.start + 1) patterns
 
-  fits : c.loop-start.start ≤ length c.args.line.now
-  fits = let inside = rw c.as_slice.ensures at c.loop-start-test.true in omega arith
+  fits : c.loop-start.start ≤ length c.args.job.now.asked.text.now
+  fits = let inside = c.loop-start-test.true in omega arith
 
   here : IsPassing all (pass_or one later) c.args.budget.now c.loop-start.budget
-  here = subst (λ p. IsPassing all p c.args.budget.now c.loop-start.budget) (from_at s c.args.line.now c.loop-start.start patterns fits) c.loop-start.invariant
+  here = subst (λ p. IsPassing all p c.args.budget.now c.loop-start.budget) (from_at s c.args.job.now.asked.text.now c.loop-start.start patterns fits) c.loop-start.invariant
 
-pub returns-in-Ok-Some-clause-hit : goal.returns-in-Ok-Some-clause-hit
-returns-in-Ok-Some-clause-hit c =
-    let r = (goal.at.returns-in-Ok-Some-clause-hit c).After-try_listed in
-    passing_won (all r) (one r) (later r) c.args.budget.now c.loop-start.budget c.try_listed.new.budget (here r) c.in-Ok-Some.won (sym c.in-Ok-Some.field-0-is ∙ c.in-Ok-Some.ensures.hit)
+  at_once : (r : Result (Option (ℕ × Caps)) FindFault) →
+      Tries (pass_here s c.at_start-at.result.start 0 patterns) c.loop-start.budget c.try_listed.new.budget r → Tries one c.loop-start.budget c.try_listed.new.budget r
+  at_once r t = subst (λ q. Tries (pass_here s q 0 patterns) c.loop-start.budget c.try_listed.new.budget r) c.at_start-at.ensures.start t
 
-pub returns-in-Ok-Some-clause-falls : goal.returns-in-Ok-Some-clause-falls
-returns-in-Ok-Some-clause-falls c =
-    let r = (goal.at.returns-in-Ok-Some-clause-falls c).After-try_listed in
-    passing_falls (all r) (one r) (later r) c.args.budget.now c.loop-start.budget c.try_listed.new.budget (here r) c.try_listed.ensures.falls
+pub returns-in-Ok-Some : goal.returns-in-Ok-Some
+returns-in-Ok-Some c =
+    let r = (goal.at.returns-in-Ok-Some c).After-try_listed in
+    tries_won (all r) (one r) (later r) c.args.budget.now c.loop-start.budget c.try_listed.new.budget (here r) c.in-Ok-Some.field-0 c.in-Ok-Some.won c.in-Ok-Some.field-0-is (at_once r _ c.in-Ok-Some.ensures)
 
-pub returns-in-Err-clause-over : goal.returns-in-Err-clause-over
-returns-in-Err-clause-over c = λ is.
-    let r = (goal.at.returns-in-Err-clause-over c).After-try_listed in
-    passing_over (all r) (one r) (later r) c.args.budget.now c.loop-start.budget c.try_listed.new.budget (here r) (c.in-Err.ensures.over is)
-
-pub returns-in-Err-clause-falls : goal.returns-in-Err-clause-falls
-returns-in-Err-clause-falls c =
-    let r = (goal.at.returns-in-Err-clause-falls c).After-try_listed in
-    passing_falls (all r) (one r) (later r) c.args.budget.now c.loop-start.budget c.try_listed.new.budget (here r) c.try_listed.ensures.falls
+pub returns-in-Err : goal.returns-in-Err
+returns-in-Err c =
+    let r = (goal.at.returns-in-Err c).After-try_listed in
+    tries_fails (all r) (one r) (later r) c.args.budget.now c.loop-start.budget c.try_listed.new.budget (here r) c.in-Err.fault (at_once r _ c.in-Err.ensures)
 
 pub loop-start-preserved : goal.loop-start-preserved
 loop-start-preserved c =
     let r = (goal.at.loop-start-preserved c).After-try_listed in
-    passing_on (all r) (one r) (later r) c.args.budget.now c.loop-start.budget c.try_listed.new.budget (here r) (sym c.in-Ok-None.field-0-is ∙ c.in-Ok-None.ensures.hit) c.try_listed.ensures.falls
+    tries_on (all r) (one r) (later r) c.args.budget.now c.loop-start.budget c.try_listed.new.budget (here r) c.in-Ok-None.field-0 c.in-Ok-None.field-0-is (at_once r _ c.in-Ok-None.ensures)
 
-pub returns-clause-hit : goal.returns-clause-hit
-returns-clause-hit c =
-    let patterns = listed_in (trees_of c.args.programs.now) (option_copied c.args.candidates) in
-    let outside = rw c.as_slice.ensures at c.loop-start-test.false in
-    sym (from_done (subject_of c.args.line.now c.args.anchors) c.args.line.now c.loop-start.start patterns (omega arith)) ∙ c.loop-start.invariant.found
+pub returns : goal.returns
+returns c = tries_ends _ _ _ _ c.loop-start.invariant (from_done _ _ _ _ (let outside = c.loop-start-test.false in omega arith))

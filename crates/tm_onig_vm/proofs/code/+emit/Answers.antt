@@ -5,7 +5,7 @@ use Rattle.tm_onig_class.proofs.Trees.{tree_of-Empty, tree_of-Char, tree_of-Cat,
 use Rattle.tm_onig_vm.specs.declared.code.Instr.TheVariants as I
 use Rattle.tm_onig_vm.specs.Code.{Code, Grows, Adds}
 use Rattle.tm_onig_vm.specs.Size.{code_size}
-use Rattle.tm_onig_vm.proofs.Emitted.{grows_refl, grows_trans, any_step, any_adds, row_step, row_adds, adds_push, leaf_done, cat_done, alt_done, group_done, repeat_done, ahead_done, behind_done, at_push, grows_push}
+use Rattle.tm_onig_vm.proofs.Emitted.{grows_refl, grows_trans, any_step, any_adds, row_step, row_adds, adds_push, leaf_done, span_done, peek_done, look_ahead_done, look_behind_done, cat_done, alt_done, group_done, repeat_done, ahead_done, behind_done, at_push, grows_push}
 use Rattle.tm_onig_vm.proofs.code.+emit.Goals as goal
 
 pub emit-returns-in-Empty : goal.emit-returns-in-Empty
@@ -61,15 +61,36 @@ emit-returns-in_ok-first-in-Group t c =
     c.in-Group.number (tree_of c.in-Group.body.value) c.in_ok-first-in-Group.first c.in_ok-last-in-Group.last refl body (grows c.in_ok-last-in-Group.last (I.Close c.in-Group.number c.args.next) close) adds))
     c.push-in-Group-2.ensures
 
+pub emit-returns-in-Some : goal.emit-returns-in-Some
+emit-returns-in-Some t c =
+    let known = rw c.in-Some.is at c.in_ok-one-in-Repeat.ensures in
+    let of = rw c.deref-in-Repeat.ensures at known.0 in
+    IfOk-weaker c.push-in-Some.result _ _
+    (λ pc made. rw (c.in-Repeat.is, tree_of-Repeat c.in-Repeat.body c.in-Repeat.least c.in-Repeat.greatest c.in-Repeat.greedy)
+    (span_done c.args.code.now.items c.args.code.now.items c.push-in-Some.new.code.items (I.Span c.in-Some.one c.in-Repeat.least c.in-Repeat.greatest c.args.next) pc c.args.next (grows_refl c.args.code.now.items) made.0 made.1
+    (tree_of c.in-Repeat.body.value) c.in-Repeat.least c.in-Repeat.greatest c.in-Repeat.greedy c.in-Some.one refl of known.1 known.2 (omega arith)))
+    c.push-in-Some.ensures
+
+pub emit-returns-in-Some-2 : goal.emit-returns-in-Some-2
+emit-returns-in-Some-2 t c =
+    let known = rw c.in-Some-2.is at c.in_ok-one-in-Look.ensures in
+    let of = rw c.deref-in-Look.ensures at known in
+    IfOk-weaker c.push-in-Some-2.result _ _
+    (λ pc made. rw (c.in-Look.is, tree_of-Look c.in-Look.body c.in-Look.ahead c.in-Look.negative)
+    (peek_done c.args.code.now.items c.args.code.now.items c.push-in-Some-2.new.code.items (I.Peek c.in-Some-2.one c.in-Look.ahead c.in-Look.negative c.args.next) pc c.args.next (grows_refl c.args.code.now.items) made.0 made.1
+    (tree_of c.in-Look.body.value) c.in-Look.ahead c.in-Look.negative c.in-Some-2.one refl of (omega arith)))
+    c.push-in-Some-2.ensures
+
 pub emit-returns-in_ok-first-in-Repeat : goal.emit-returns-in_ok-first-in-Repeat
 emit-returns-in_ok-first-in-Repeat t c =
-    let body = rw c.deref-in-Repeat.ensures at c.in_ok-first-in-Repeat.ensures.1 in
-    let adds = rw c.deref-in-Repeat.ensures at c.in_ok-first-in-Repeat.ensures.2 in
+    let round_by_round = rw (c.deref-in-Repeat.ensures, c.in_default.is) at c.in_ok-one-in-Repeat.ensures in
+    let body = rw c.deref-in-Repeat-2.ensures at c.in_ok-first-in-Repeat.ensures.1 in
+    let adds = rw c.deref-in-Repeat-2.ensures at c.in_ok-first-in-Repeat.ensures.2 in
     IfOk-weaker c.push-in-Repeat-2.result _ _
     (λ pc made. rw (c.in-Repeat.is, tree_of-Repeat c.in-Repeat.body c.in-Repeat.least c.in-Repeat.greatest c.in-Repeat.greedy)
     (repeat_done c.args.code.now.items c.push-in-Repeat.new.code.items c.emit-in-Repeat.new.code.items c.patch.new.code.items c.push-in-Repeat-2.new.code.items
     (tree_of c.in-Repeat.body.value) c.in-Repeat.least c.in-Repeat.greatest c.in-Repeat.greedy c.in_ok-first-in-Repeat.first c.in_ok-last-in-Repeat.last pc c.args.next
-    c.in_ok-last-in-Repeat.ensures.0 c.in_ok-last-in-Repeat.ensures.1 c.in_ok-first-in-Repeat.ensures.0 body adds c.patch.ensures made.0 made.1))
+    c.in_ok-last-in-Repeat.ensures.0 c.in_ok-last-in-Repeat.ensures.1 c.in_ok-first-in-Repeat.ensures.0 body adds c.patch.ensures made.0 made.1 round_by_round))
     c.push-in-Repeat-2.ensures
 
 pub emit_any-loop-i-preserved : goal.emit_any-loop-i-preserved
@@ -131,13 +152,19 @@ emit-returns-in-Atomic t c =
 
 pub emit-returns-then-ahead : goal.emit-returns-then-ahead
 emit-returns-then-ahead t c =
-    let made = rw c.deref-then-ahead.ensures at c.emit_ahead-then-ahead.ensures in
-    rw (c.in-Look.is, tree_of-Look c.in-Look.body c.in-Look.ahead c.in-Look.negative, c.if-ahead.true) made
+    let long = rw (c.deref-in-Look.ensures, c.in_default-2.is) at c.in_ok-one-in-Look.ensures in
+    IfOk-weaker c.emit_ahead-then-ahead.result _ _
+    (λ pc made. rw (c.in-Look.is, tree_of-Look c.in-Look.body c.in-Look.ahead c.in-Look.negative, c.if-ahead.true)
+    (look_ahead_done c.args.code.now.items c.emit_ahead-then-ahead.new.code.items (tree_of c.in-Look.body.value) c.in-Look.negative pc c.args.next long made))
+    (rw c.deref-then-ahead.ensures at c.emit_ahead-then-ahead.ensures)
 
 pub emit-returns-else-ahead : goal.emit-returns-else-ahead
 emit-returns-else-ahead t c =
-    let made = rw c.deref-in-Look.ensures at c.emit_behind.ensures in
-    rw (c.in-Look.is, tree_of-Look c.in-Look.body c.in-Look.ahead c.in-Look.negative, c.if-ahead.false) made
+    let long = rw (c.deref-in-Look.ensures, c.in_default-2.is) at c.in_ok-one-in-Look.ensures in
+    IfOk-weaker c.emit_behind.result _ _
+    (λ pc made. rw (c.in-Look.is, tree_of-Look c.in-Look.body c.in-Look.ahead c.in-Look.negative, c.if-ahead.false)
+    (look_behind_done c.args.code.now.items c.emit_behind.new.code.items (tree_of c.in-Look.body.value) c.in-Look.negative pc c.args.next long made))
+    (rw c.deref-in-Look-2.ensures at c.emit_behind.ensures)
 
 pub emit_ahead-returns : goal.emit_ahead-returns
 emit_ahead-returns t c =

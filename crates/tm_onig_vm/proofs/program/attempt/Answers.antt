@@ -18,7 +18,7 @@ pub groups_of-requires : goal.groups_of-requires
 groups_of-requires c =
     let s = subject_of c.args.line.now c.args.anchors in
     let t = tree_of c.args.prog.now in
-    let hit = rw c.as_slice.ensures at c.in-Ok-Some.ensures.hit in
+    let hit = c.in-Ok-Some.ensures.hit in
     let low : c.args.start ≤ c.args.start = omega arith in
     let end = (tree_ends s t accept c.args.start c.args.start (blank t) low c.requires.within (accept_ends s c.args.start) (hit_at c.attempt_from.new.caps c.in-Ok-Some.end)
     (sym (ap (option_map (hit_at c.attempt_from.new.caps)) (sym c.in-Ok-Some.field-0-is) ∙ hit))).1 in

@@ -3,9 +3,9 @@ use Rattle.std.proofs.lemmas.List.{take_all}
 use Rattle.tm_onig_vm.specs.declared.trail.Mark.{Mark}
 use Rattle.tm_onig_vm.specs.declared.trail.Trail.{Trail}
 use Rattle.tm_onig_vm.specs.Threads.{plains, undone, groups_under}
-use Rattle.tm_onig_vm.proofs.Stacked.{Keeps, keeps_none, keeps_group, keeps_over, way_says, put_says, taken_says}
+use Rattle.tm_onig_vm.proofs.Stacked.{Keeps, keeps_none, keeps_group, keeps_over, way_says, each_says, put_says, taken_says}
 use Rattle.tm_onig_vm.proofs.trail.keep_groups.Goals as goal
-use Rattle.tm_onig_vm.proofs.trail.keep_groups.Goals.{in-Group+in_ok-push-in-Group, in-Way, in-Put, in-Taken}
+use Rattle.tm_onig_vm.proofs.trail.keep_groups.Goals.{in-Group+in_ok-push-in-Group, in-Way, in-Each, in-Put, in-Taken}
 
 pub loop-i-init : goal.loop-i-init
 loop-i-init c = keeps_none c.args.trail.now
@@ -23,6 +23,7 @@ loop-i-preserved c =
           subst (λ (t : Trail). Keeps c.args.trail.now t (take (c.loop-i.i + 1) marks)) (sym w.trail-is)
           (keeps_group c.args.trail.now c.loop-i.trail marks c.loop-i.i mark low c.index-mark.ensures c.loop-i.invariant _ _ _ w.in-Group.is w.in_ok-push-in-Group.ensures.items refl)
       | in-Way w ↦ subst (λ (t : Trail). Keeps c.args.trail.now t (take (c.loop-i.i + 1) marks)) (sym w.trail-is) (over (rw w.in-Way.is (way_says _)))
+      | in-Each w ↦ subst (λ (t : Trail). Keeps c.args.trail.now t (take (c.loop-i.i + 1) marks)) (sym w.trail-is) (over (rw w.in-Each.is (each_says _ _ _)))
       | in-Put w ↦ subst (λ (t : Trail). Keeps c.args.trail.now t (take (c.loop-i.i + 1) marks)) (sym w.trail-is) (over (rw w.in-Put.is put_says))
       | in-Taken w ↦ subst (λ (t : Trail). Keeps c.args.trail.now t (take (c.loop-i.i + 1) marks)) (sym w.trail-is) (over (rw w.in-Taken.is (taken_says _)))
     ]

@@ -1,6 +1,6 @@
 use Rattle.std.proofs.Common.{refl, sym, ◌∙◌}
 use Rattle.std.proofs.lemmas.List.{nil_from_length}
-use Rattle.tm_onig_vm.proofs.Stacked.{way_kept, group_kept, put_kept, taken_kept, none_kept, same_kept}
+use Rattle.tm_onig_vm.proofs.Stacked.{way_kept, each_kept, group_kept, put_kept, taken_kept, none_kept, same_kept}
 use Rattle.tm_onig_vm.proofs.trail.undo_all.Goals as goal
 
 pub marks-init : goal.marks-init
@@ -17,6 +17,10 @@ marks-preserved-in-Group c =
 pub marks-preserved-in-Way : goal.marks-preserved-in-Way
 marks-preserved-in-Way c =
     record { groups = sym (way_kept _ c.marks.trail _ (rw c.in-Way.is at c.in-Some.ensures.items) c.marks.caps) ∙ c.marks.invariant.groups; numbers = c.marks.invariant.numbers }
+
+pub marks-preserved-in-Each : goal.marks-preserved-in-Each
+marks-preserved-in-Each c =
+    record { groups = sym (each_kept _ c.marks.trail _ _ _ (rw c.in-Each.is at c.in-Some.ensures.items) c.marks.caps) ∙ c.marks.invariant.groups; numbers = c.marks.invariant.numbers }
 
 pub marks-preserved-in-Put : goal.marks-preserved-in-Put
 marks-preserved-in-Put c =

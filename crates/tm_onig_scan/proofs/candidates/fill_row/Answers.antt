@@ -3,8 +3,8 @@ use Rattle.tm_onig_class.specs.Tree.{Tree}
 use Rattle.tm_onig_scan.specs.Winner.{trees_of, pattern_at, patterns_at}
 use Rattle.tm_onig_scan.specs.Rows.{NeverStartsIf}
 use Rattle.tm_onig_scan.proofs.Rows.{IsMadeTo, made_takes, made_skips, made_all, length_at}
-use Rattle.tm_onig_scan.proofs.candidates.made_row.Goals as goal
-use Rattle.tm_onig_scan.proofs.candidates.made_row.Goals.{then-may_start+in_ok-push, else-may_start}
+use Rattle.tm_onig_scan.proofs.candidates.fill_row.Goals as goal
+use Rattle.tm_onig_scan.proofs.candidates.fill_row.Goals.{then-may_start+in_ok-push, else-may_start}
 
 pub loop-place-preserved : goal.loop-place-preserved
 loop-place-preserved c = λ next same.
