@@ -1,0 +1,12 @@
+pub mod Adding
+pub mod Bases
+pub mod Cases
+pub mod Entering
+pub mod Interning
+pub mod Lines
+pub mod Paths
+pub mod Popping
+pub mod StacksGrown
+pub mod Starting
+pub mod Tests
+pub mod Turning

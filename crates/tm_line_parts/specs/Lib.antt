@@ -1,0 +1,4 @@
+pub mod Adds
+pub mod Did
+pub mod Stacks
+pub mod Whole

@@ -1,0 +1,4 @@
+pub mod Pieces
+pub mod Reach
+pub mod Runs
+pub mod Turns
