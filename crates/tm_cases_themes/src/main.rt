@@ -4,6 +4,7 @@
 //! answer.
 #![tactic(auto)]
 
+mod callers;
 mod selectors;
 mod texts;
 mod themes;
@@ -20,11 +21,14 @@ fn answer_of(alloc: Global, case: &Case) -> Result<String, CaseFault> {
     match case.command() {
         "selector" => selectors::priorities(alloc, case),
         "selector_repeated" => selectors::priorities_of_repeated(alloc, case),
+        "first" => selectors::firsts(alloc, case),
         "plain" => themes::by_plain(alloc, case),
         "theme" => themes::by_theme(alloc, case),
         "theme_with" => themes::by_theme_with(alloc, case),
         "many" => themes::by_many(alloc, case),
         "refused" => themes::refused(alloc, case),
+        "rules" => themes::counted(alloc, case),
+        "below" => times::below(alloc, case),
         "meta_times" => times::meta_times(alloc, case),
         "pushed_times" => times::pushed_times(alloc, case),
         "pack" => words::packed(alloc, case),

@@ -1,5 +1,6 @@
 //! Selectors and what they match.
 
+use crate::callers::comes_first;
 use crate::texts::{name_of, path_of};
 use std::alloc::Global;
 use tm_cases::{Case, CaseFault};
@@ -55,4 +56,25 @@ pub fn priorities_of_repeated(alloc: Global, case: &Case) -> Result<String, Case
     push_times(&mut chars, case.text(2)?, 1)?;
     push_times(&mut chars, case.text(3)?, times)?;
     priorities_of(alloc, case, &Name::new(chars), 4)
+}
+
+/// `first TEXT, PATH, PATH, ..`: for each path, whether a rule of the selector is tried before those of the grammar.
+pub fn firsts(alloc: Global, case: &Case) -> Result<String, CaseFault> {
+    let text = name_of(alloc, case.text(0)?)?;
+    let Ok(selector) = Selector::parse(alloc, &text) else {
+        return Err(CaseFault::OutOfMemory);
+    };
+    let mut answer = String::new(alloc);
+    for place in 1..case.len() {
+        let path = path_of(alloc, case.text(place)?)?;
+        if place > 1 {
+            answer.push(' ')?;
+        }
+        answer.push_str(if comes_first(&selector, &path) {
+            "yes"
+        } else {
+            "no"
+        })?;
+    }
+    Ok(answer)
 }

@@ -2,6 +2,7 @@
 //!
 //! The text of a file stands with `'` in place of `"`.
 
+use crate::callers::right_rules;
 use crate::texts::{name_of, path_of};
 use serde_json::Value;
 use std::alloc::Global;
@@ -172,5 +173,21 @@ pub fn by_many(alloc: Global, case: &Case) -> Result<String, CaseFault> {
             Ok(format!(in alloc; "{word:08x}")?)
         }
         Err(fault) => told(alloc, &fault),
+    }
+}
+
+/// `rules FILE`: how many rules the file has, where nothing is wrong in it, else `wrong`.
+pub fn counted(alloc: Global, case: &Case) -> Result<String, CaseFault> {
+    let file = file_of(alloc, case.text(0)?)?;
+    let Ok(value) = Value::from_slice(alloc, file.as_bytes()) else {
+        return Ok(String::from_str(alloc, "NotJson")?);
+    };
+    match right_rules(alloc, &value) {
+        Ok(Some(rules)) => {
+            let count = rules.len();
+            Ok(format!(in alloc; "{count}")?)
+        }
+        Ok(None) => Ok(String::from_str(alloc, "wrong")?),
+        Err(_) => Err(CaseFault::OutOfMemory),
     }
 }

@@ -1,10 +1,12 @@
 //! One call made many times, so that a measurement sees little else.
+ghost use Rattle.tm_theme.specs.Style.{IsSmall};
 
+use crate::callers::word_below;
 use crate::texts::path_of;
 use crate::themes::{file_of, languages_of, told};
 use std::alloc::Global;
 use tm_cases::{Case, CaseFault};
-use tm_defs::texts::Name;
+use tm_defs::texts::{Name, ScopePath};
 use tm_meta::metadata::TokenType;
 use tm_selector::names::Scopes;
 use tm_theme::rules::MetaRules;
@@ -35,6 +37,23 @@ fn rules_of(alloc: Global, case: &Case, place: usize) -> Result<MetaRules, CaseF
     })
 }
 
+/// The word of a path, worked out so many times, by turns of the path and a copy of it: which one is next hangs on the
+/// word, so that no compiler makes one call of all.
+fn word_times(
+    theme: &Theme,
+    rules: &MetaRules,
+    path: &ScopePath,
+    copy: &ScopePath,
+    times: u64,
+) -> u32 {
+    let mut word = 0;
+    for _ in 0..times {
+        let next = if word % 2 == 0 { copy } else { path };
+        word = theme.meta(rules, next);
+    }
+    word
+}
+
 /// `meta_times TIMES, FILE, LANGUAGES, PATH`: the word of a path, which is worked out so many times.
 pub fn meta_times(alloc: Global, case: &Case) -> Result<String, CaseFault> {
     let times = case.number(0)?;
@@ -43,10 +62,8 @@ pub fn meta_times(alloc: Global, case: &Case) -> Result<String, CaseFault> {
     let path = path_of(alloc, case.text(3)?)?;
     match Theme::from_slice(alloc, file.as_bytes()) {
         Ok(theme) => {
-            let mut word = 0;
-            for _ in 0..times {
-                word = theme.meta(&rules, &path);
-            }
+            let copy = path_of(alloc, case.text(3)?)?;
+            let word = word_times(&theme, &rules, &path, &copy, times);
             Ok(format!(in alloc; "{word:08x}")?)
         }
         Err(fault) => told(alloc, &fault),
@@ -54,7 +71,9 @@ pub fn meta_times(alloc: Global, case: &Case) -> Result<String, CaseFault> {
 }
 
 /// The parts of names, scope by scope.
-fn parts_of(theme: &Theme, rules: &MetaRules, names: &[Name]) -> Parts {
+fn parts_of(theme: &Theme, rules: &MetaRules, names: &[Name]) -> Parts
+    ensures { IsSmall result.look }
+{
     let mut parts = theme.base();
     for (place, scope) in names.iter().enumerate() {
         let above = First {
@@ -107,6 +126,32 @@ pub fn pushed_times(alloc: Global, case: &Case) -> Result<String, CaseFault> {
     let path = path_of(alloc, case.text(3)?)?;
     match Theme::from_slice(alloc, file.as_bytes()) {
         Ok(theme) => printed(alloc, parts_times(&theme, &rules, path.as_slice(), times)),
+        Err(fault) => told(alloc, &fault),
+    }
+}
+
+/// The word of the last of these names below the others.
+fn last_word(
+    alloc: Global,
+    theme: &Theme,
+    rules: &MetaRules,
+    names: &[Name],
+) -> Result<String, CaseFault> {
+    let [above @ .., scope] = names else {
+        return Err(CaseFault::NoField);
+    };
+    let known = parts_of(theme, rules, above);
+    let word = word_below(theme, rules, &First { all: above }, scope, known);
+    Ok(format!(in alloc; "{word:08x}")?)
+}
+
+/// `below FILE, LANGUAGES, PATH`: the word of a path, from the parts of the path above its last name.
+pub fn below(alloc: Global, case: &Case) -> Result<String, CaseFault> {
+    let file = file_of(alloc, case.text(0)?)?;
+    let rules = rules_of(alloc, case, 1)?;
+    let path = path_of(alloc, case.text(2)?)?;
+    match Theme::from_slice(alloc, file.as_bytes()) {
+        Ok(theme) => last_word(alloc, &theme, &rules, path.as_slice()),
         Err(fault) => told(alloc, &fault),
     }
 }

@@ -3,3 +3,5 @@ pub mod Parts
 pub mod Small
 pub mod Utf8Values
 pub mod Strongest
+pub mod Lookups
+pub mod BucketSteps

@@ -2,11 +2,9 @@
 use Rattle.std.proofs.Common.{◌≡◌, ℕ, ◌≤◌, Bool, true, false, List, [], ◌∷◌, ◌++◌, Option, Some, None, refl, ap, sym, subst, ◌∙◌, append_assoc, if◌then◌else◌}
 use Rattle.std.specs.Prelude.{unwrap_or, option_and_then}
 use Rattle.tm_theme.specs.declared.style.Look.{Look}
-use Rattle.tm_theme.specs.declared.style.Attribute.{Attribute}
-use Rattle.tm_theme.specs.declared.style.Attribute.TheVariants.{Font, Foreground, Background}
 use Rattle.tm_theme.specs.declared.style.Alternative.{Alternative}
 use Rattle.tm_theme.specs.declared.theme.Parts.{Parts}
-use Rattle.tm_theme.specs.Style.{value_of, is_weaker, sets, stronger, strongest, styled, IsSmall, IsAtMost, IsSmallStyle, AreSmall}
+use Rattle.tm_theme.specs.Style.{Attribute, Font, Foreground, Background, value_of, is_weaker, sets, stronger, strongest, styled, IsSmall, IsAtMost, IsSmallStyle, AreSmall}
 use Rattle.tm_theme.specs.Theme.{base_parts, pushed, parts_from, IsByLast}
 
 last : (alternatives : List Alternative) (languages : List (List ℕ × ℕ)) (above path : List (List ℕ)) (scope : List ℕ) (parts : Parts) →
@@ -82,12 +80,10 @@ parts-small alternatives languages above [] parts h small = small
 parts-small alternatives languages above (scope ∷ path) parts h small =
     parts-small alternatives languages (above ++ scope ∷ []) path (pushed alternatives languages above scope parts) h (styled-small alternatives above scope parts.look h small)
 
-pub pushed-small : (r parts : Parts) (alternatives lent : List Alternative) (languages : List (List ℕ × ℕ)) (above : List (List ℕ)) (scope : List ℕ) → r ≡ pushed lent languages above scope parts →
-    lent ≡ alternatives → AreSmall alternatives → IsSmall parts.look → IsSmall r.look
-pushed-small r parts alternatives lent languages above scope is same h small =
-    subst (λ (p : Parts). IsSmall p.look) (sym is) (styled-small lent above scope parts.look (subst AreSmall (sym same) h) small)
+pub pushed-small : (r parts : Parts) (alternatives : List Alternative) (languages : List (List ℕ × ℕ)) (above : List (List ℕ)) (scope : List ℕ) → r ≡ pushed alternatives languages above scope parts →
+    AreSmall alternatives → IsSmall parts.look → IsSmall r.look
+pushed-small r parts alternatives languages above scope is h small = subst (λ (p : Parts). IsSmall p.look) (sym is) (styled-small alternatives above scope parts.look h small)
 
-pub all-small : (r base : Parts) (alternatives lent : List Alternative) (languages : List (List ℕ × ℕ)) (path : List (List ℕ)) → r ≡ parts_from lent languages [] path base →
-    lent ≡ alternatives → AreSmall alternatives → IsSmall base.look → IsSmall r.look
-all-small r base alternatives lent languages path is same h small =
-    subst (λ (p : Parts). IsSmall p.look) (sym is) (parts-small lent languages [] path base (subst AreSmall (sym same) h) small)
+pub all-small : (r base : Parts) (alternatives : List Alternative) (languages : List (List ℕ × ℕ)) (path : List (List ℕ)) → r ≡ parts_from alternatives languages [] path base →
+    AreSmall alternatives → IsSmall base.look → IsSmall r.look
+all-small r base alternatives languages path is h small = subst (λ (p : Parts). IsSmall p.look) (sym is) (parts-small alternatives languages [] path base h small)

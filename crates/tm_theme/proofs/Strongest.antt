@@ -2,18 +2,17 @@
 use Rattle.std.proofs.Common.{◌≡◌, ℕ, zero, suc, ◌<◌, ◌⊎◌, inl, inr, Bool, true, false, List, [], ◌∷◌, Option, Some, None, refl, ap, sym, ◌∙◌, subst, arith, nat_lt, if◌then◌else◌}
 use Rattle.std.specs.Prelude.{slice_get, MatchOption}
 use Rattle.std.proofs.lemmas.Bool.Decides.{nat_tests}
-use Rattle.tm_theme.specs.declared.style.Attribute.{Attribute}
 use Rattle.tm_theme.specs.declared.style.Alternative.{Alternative}
-use Rattle.tm_theme.specs.Style.{dots, is_weaker, sets, stronger, strongest}
+use Rattle.tm_theme.specs.Style.{Attribute, dots, is_weaker, sets, stronger, strongest}
 use Rattle.tm_theme.specs.Strongest.{IsStrongest, IsByStrength}
 
-which : (m n : ℕ) → (m < n) ⊎ ((m ≡ n) ⊎ (n < m))
+pub which : (m n : ℕ) → (m < n) ⊎ ((m ≡ n) ⊎ (n < m))
 which zero zero = inr (inl refl)
 which zero (suc n) = inl (omega arith)
 which (suc m) zero = inr (inr (omega arith))
 which (suc m) (suc n) = elim (which m n) [ inl h ↦ inl (omega arith) | inr (inl h) ↦ inr (inl (omega arith)) | inr (inr h) ↦ inr (inr (omega arith)) ]
 
-abbrev by_numbers : ℕ → ℕ → Bool → Bool
+abbrev pub by_numbers : ℕ → ℕ → Bool → Bool
 by_numbers m n rest = if nat_lt m n then true else (if nat_lt n m then false else rest)
 
 lt-true : (m n : ℕ) → m < n → nat_lt m n ≡ true
@@ -22,7 +21,7 @@ lt-true m n h = grind (arith, nat_tests)
 lt-false : (m n : ℕ) → (m < n → ⊥) → nat_lt m n ≡ false
 lt-false m n h = elim (which m n) [ inl k ↦ absurd (h k) | inr (inl k) ↦ grind (arith, nat_tests) | inr (inr k) ↦ grind (arith, nat_tests) ]
 
-less : (m n : ℕ) (rest : Bool) → m < n → by_numbers m n rest ≡ true
+pub less : (m n : ℕ) (rest : Bool) → m < n → by_numbers m n rest ≡ true
 less m n rest h = ap (λ b. if b then true else (if nat_lt n m then false else rest)) (lt-true m n h)
 
 more : (m n : ℕ) (rest : Bool) → n < m → by_numbers m n rest ≡ false
@@ -44,7 +43,7 @@ when-false m n rest e = elim (which m n) [ inl h ↦ absurd (true-false (sym (le
     true-false h = cc
 
 -- what is not weaker than another lies at least as high
-between : (c x b : List (List ℕ)) → is_weaker c x ≡ true → is_weaker c b ≡ false → is_weaker b x ≡ true
+pub between : (c x b : List (List ℕ)) → is_weaker c x ≡ true → is_weaker c b ≡ false → is_weaker b x ≡ true
 between [] [] b h k = cc
 between [] (x ∷ xs) [] h k = refl
 between [] (x ∷ xs) (b ∷ bs) h k = cc
@@ -59,7 +58,7 @@ between (c ∷ cs) (x ∷ xs) (b ∷ bs) h k = go (between cs xs bs) (when-true 
     go rest (inr p) (inl q) = less (dots b) (dots x) (is_weaker bs xs) (omega (arith, p.0))
     go rest (inr p) (inr q) = even (dots b) (dots x) (is_weaker bs xs) (omega (arith, p.0, q.0)) ∙ rest p.1 q.1
 
-asymmetric : (a b : List (List ℕ)) → is_weaker a b ≡ true → is_weaker b a ≡ false
+pub asymmetric : (a b : List (List ℕ)) → is_weaker a b ≡ true → is_weaker b a ≡ false
 asymmetric [] [] h = cc
 asymmetric [] (b ∷ bs) h = refl
 asymmetric (a ∷ as') [] h = cc
@@ -79,7 +78,7 @@ not-itself a = go (is_weaker a a) refl
 IsAnswer : Attribute → List (List ℕ) → List ℕ → List Alternative → Option Alternative → Type 0
 IsAnswer attribute above scope all o = MatchOption o ((place : ℕ) (b : Alternative) → slice_get all place ≡ Some b → sets attribute above scope b ≡ false) (IsStrongest attribute above scope all)
 
-some-same : (a b : Alternative) → ◌≡◌ {A = Option Alternative} (Some a) (Some b) → a ≡ b
+pub some-same : (a b : Alternative) → ◌≡◌ {A = Option Alternative} (Some a) (Some b) → a ≡ b
 some-same a b e = cc
 
 -- one more alternative in front

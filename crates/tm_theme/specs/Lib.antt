@@ -5,3 +5,4 @@ pub mod Palette
 pub mod Fonts
 pub mod Answer
 pub mod Strongest
+pub mod Buckets

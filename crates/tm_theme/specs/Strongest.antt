@@ -1,8 +1,7 @@
 -- Which alternative is the strongest, without an order of looking at them.
 use Rattle.std.specs.Prelude.{◌≡◌, ℕ, ◌<◌, List, true, false, Some, slice_get, MatchOption}
-use Rattle.tm_theme.specs.declared.style.Attribute.{Attribute}
 use Rattle.tm_theme.specs.declared.style.Alternative.{Alternative}
-use Rattle.tm_theme.specs.Style.{is_weaker, sets, strongest}
+use Rattle.tm_theme.specs.Style.{Attribute, is_weaker, sets, strongest}
 
 -- the alternative stands among these and sets the attribute; it is weaker than none that does, and all such behind it are
 -- weaker than it

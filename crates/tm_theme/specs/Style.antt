@@ -3,9 +3,13 @@ use Rattle.std.specs.Prelude.{ℕ, ◌+◌, ◌≤◌, ◌==◌, ◌&&◌, Bool,
 use Rattle.tm_selector.specs.Names.{covers, place_above}
 use Rattle.tm_theme.specs.declared.style.Look.{Look}
 use Rattle.tm_theme.specs.declared.style.Style.{Style}
-use Rattle.tm_theme.specs.declared.style.Attribute.{Attribute}
-use Rattle.tm_theme.specs.declared.style.Attribute.TheVariants.{Font, Foreground, Background}
 use Rattle.tm_theme.specs.declared.style.Alternative.{Alternative}
+
+-- a part of a look
+pub data Attribute : Type 0 where
+  Font : Attribute
+  Foreground : Attribute
+  Background : Attribute
 
 abbrev pub value_of : Attribute → Style → Option ℕ
 value_of Font style = style.font

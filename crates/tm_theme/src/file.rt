@@ -51,7 +51,7 @@ fn rules_theme(alloc: Global, rules: &[WrittenRule]) -> Result<Option<Theme>, Ou
         foreground: 1,
         background: background_number(&defaults),
     };
-    Ok(Some(Theme::new(base, alternatives)))
+    Ok(Some(Theme::new(alloc, base, alternatives)?))
 }
 
 fn theme_value(alloc: Global, value: &Value) -> Result<Option<Theme>, OutOfMemory>

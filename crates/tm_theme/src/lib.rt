@@ -7,6 +7,7 @@
 //! ```
 #![tactic(auto)]
 
+mod buckets;
 pub mod fault;
 mod file;
 pub mod laws;

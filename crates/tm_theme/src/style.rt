@@ -1,7 +1,4 @@
 //! What the rules of a theme set.
-ghost use Rattle.std.specs.Prelude.{◌≡◌};
-ghost use Rattle.tm_theme.specs.Style.{value_of};
-
 use tm_defs::texts::ScopePath;
 
 /// The font and the colours of a scope. A font is the sum of 1 italic, 2 bold, 4 underline, 8 strikethrough; a colour
@@ -21,29 +18,10 @@ pub struct Style {
     pub background: Option<u16>,
 }
 
-/// A part of a look.
-#[derive(Clone, Copy, Debug, PartialEq, Eq)]
-pub enum Attribute {
-    Font,
-    Foreground,
-    Background,
-}
-
 /// One alternative of a rule's scope, with what the rule sets.
 #[derive(Drop)]
 pub struct Alternative {
     /// Its words, the last one first: the scope, and then what has to stand above, from the nearest outward.
     pub words: ScopePath,
     pub style: Style,
-}
-
-/// What a style says of an attribute.
-pub fn value_of(style: &Style, attribute: Attribute) -> Option<u16>
-    ensures { result ≡ value_of attribute style.now }
-{
-    match attribute {
-        Attribute::Font => style.font,
-        Attribute::Foreground => style.foreground,
-        Attribute::Background => style.background,
-    }
 }

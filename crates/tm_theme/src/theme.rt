@@ -4,8 +4,8 @@ ghost use Rattle.tm_meta.specs.Metadata.{type_bits};
 ghost use Rattle.tm_theme.specs.Style.{IsSmall, AreSmall};
 ghost use Rattle.tm_theme.specs.Theme.{theme_rules, plain_theme, base_parts, pushed, parts_from, metadata_by, word_of};
 
+use crate::buckets::Table;
 use crate::rules::{MetaRules, is_balanced, language_of};
-use crate::strength::styled;
 use crate::style::{Alternative, Look};
 use std::alloc::Global;
 use std::marker::Model;
@@ -19,7 +19,7 @@ use tm_selector::names::Scopes;
 #[derive(Drop)]
 pub struct Theme {
     base: Look,
-    alternatives: Vec<Alternative>,
+    alternatives: Table,
 }
 
 impl Model for Theme {
@@ -28,9 +28,9 @@ impl Model for Theme {
 
     ghost Value = { ThemeRules };
 
-    ghost view = { λ a. theme_rules a.base a.alternatives.items };
+    ghost view = { λ a. theme_rules a.base a.alternatives };
 
-    ghost invariant = { λ a. IsSmall a.base × AreSmall a.alternatives.items };
+    ghost invariant = { λ a. IsSmall a.base × AreSmall a.alternatives };
 }
 
 /// What a scope's metadata is made of, but for its brackets.
@@ -73,7 +73,7 @@ fn type_number(token_type: TokenType) -> u8
 
 /// The parts of a scope below others, where those of the scope above it are known.
 fn pushed<S: Scopes>(
-    alternatives: &[Alternative],
+    alternatives: &Table,
     languages: &[(Name, u8)],
     above: &S,
     scope: &Name,
@@ -84,17 +84,12 @@ fn pushed<S: Scopes>(
     Parts {
         language: language_of(languages, scope).unwrap_or(parts.language),
         token_type: decided(scope.as_slice()).unwrap_or(parts.token_type),
-        look: styled(alternatives, above, scope, parts.look),
+        look: alternatives.styled(above, scope, parts.look),
     }
 }
 
 /// The parts of a path.
-fn parts_of(
-    alternatives: &[Alternative],
-    languages: &[(Name, u8)],
-    path: &[Name],
-    base: Look,
-) -> Parts
+fn parts_of(alternatives: &Table, languages: &[(Name, u8)], path: &[Name], base: Look) -> Parts
     ensures { result ≡ parts_from alternatives.now languages.now [] path.now (base_parts base) }
 {
     let mut parts = Parts {
@@ -137,17 +132,22 @@ impl Theme {
                 foreground: 1,
                 background: 2,
             },
-            alternatives: Vec::new(alloc),
+            alternatives: Table::new(alloc, Vec::new(alloc))?,
         })
     }
 
     /// The theme with this look of plain text and these alternatives of rules, in the order of its file.
-    pub fn new(base: Look, alternatives: Vec<Alternative>) -> Theme
+    pub fn new(
+        alloc: Global,
+        base: Look,
+        alternatives: Vec<Alternative>,
+    ) -> Result<Theme, OutOfMemory>
         requires base { IsSmall base }
         requires alternatives { AreSmall alternatives.items }
-        ensures { result ≡ theme_rules base alternatives.items }
+        ensures { IfOk result (λ theme. theme ≡ theme_rules base alternatives.items) }
     {
-        Theme { base, alternatives }
+        let alternatives = Table::new(alloc, alternatives)?;
+        Ok(Theme { base, alternatives })
     }
 
     /// The parts of no scope.
@@ -175,7 +175,7 @@ impl Theme {
         ensures small { IsSmall parts.look → IsSmall result.look }
     {
         pushed(
-            self.alternatives.as_slice(),
+            &self.alternatives,
             rules.languages.as_slice(),
             above,
             scope,
@@ -188,7 +188,7 @@ impl Theme {
         ensures { result ≡ metadata_by self.now rules.now.languages.items rules.now.unbalanced.items path.now }
     {
         let parts = parts_of(
-            self.alternatives.as_slice(),
+            &self.alternatives,
             rules.languages.as_slice(),
             path.as_slice(),
             self.base,

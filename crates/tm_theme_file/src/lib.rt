@@ -2,7 +2,6 @@
 #![tactic(auto)]
 
 pub mod fault;
-mod paths;
 pub mod read;
 mod threads;
 mod written;

@@ -1,7 +1,7 @@
 //! The walk that finds the first wrong value of a theme's file.
 //!
 //! A path is put together on the way back, once a wrong value is found.
-ghost use Rattle.std.specs.Prelude.{◌≡◌, ◌++◌, IfOk, option_map};
+ghost use Rattle.std.specs.Prelude.{◌≡◌, IfOk, option_map};
 ghost use Rattle.std.specs.Option.{option_or};
 ghost use Rattle.serde_json.specs.Find.{get};
 ghost use Rattle.serde_json.specs.View.{view, items_view};
@@ -10,12 +10,12 @@ ghost use Rattle.tm_theme_file.specs.Written.{is_colour};
 ghost use Rattle.tm_theme_file.specs.Wrong.{below, misfit, wrong_at, wrong_item, wrong_text, wrong_colour, unless_colour, wrong_scope, is_object, wrong_settings, wrong_rule, wrong_rules, rules_key, wrong_in};
 
 use crate::fault::Wrong;
-use crate::paths;
 use crate::written::is_colour;
 use serde_json::Value;
 use std::alloc::Global;
 use tm_defs::memory::OutOfMemory;
 use tm_defs::texts::Name;
+use tm_grammar::paths;
 
 fn misfit(alloc: Global) -> Option<Wrong>
     ensures { result ≡ misfit }
@@ -23,32 +23,18 @@ fn misfit(alloc: Global) -> Option<Wrong>
     Some(Wrong::Shape(Name::new(Vec::new(alloc))))
 }
 
-/// The path with the step before it.
-fn joined(step: Vec<char>, path: &Name) -> Result<Name, OutOfMemory>
-    ensures { IfOk result (λ name. name ≡ step.items ++ path.now) }
-{
-    let mut chars = step;
-    chars.extend_from_slice(path.as_slice())?;
-    Ok(Name::new(chars))
-}
-
-/// What is wrong in a part, behind the step to the part.
-fn below(step: Vec<char>, wrong: Option<Wrong>) -> Result<Option<Wrong>, OutOfMemory>
-    ensures { IfOk result (λ found. found ≡ below step.items wrong) }
+/// What is wrong in the member of a key, by its path from the object on.
+fn below_key(alloc: Global, key: &str, wrong: Option<Wrong>) -> Result<Option<Wrong>, OutOfMemory>
+    ensures { IfOk result (λ found. found ≡ below (key_step key.now) wrong) }
 {
     match wrong {
-        Some(Wrong::Shape(path)) => Ok(Some(Wrong::Shape(joined(step, &path)?))),
-        Some(Wrong::Colour(path)) => Ok(Some(Wrong::Colour(joined(step, &path)?))),
+        Some(Wrong::Shape(path)) => Ok(Some(Wrong::Shape(paths::below_key(alloc, key, &path)?))),
+        Some(Wrong::Colour(path)) => Ok(Some(Wrong::Colour(paths::below_key(alloc, key, &path)?))),
         None => Ok(None),
     }
 }
 
-fn below_key(alloc: Global, key: &str, wrong: Option<Wrong>) -> Result<Option<Wrong>, OutOfMemory>
-    ensures { IfOk result (λ found. found ≡ below (key_step key.now) wrong) }
-{
-    below(paths::with_key(alloc, &[], key)?, wrong)
-}
-
+/// What is wrong in the item at a place, by its path from the list on.
 fn below_place(
     alloc: Global,
     place: usize,
@@ -56,7 +42,15 @@ fn below_place(
 ) -> Result<Option<Wrong>, OutOfMemory>
     ensures { IfOk result (λ found. found ≡ below (place_step place) wrong) }
 {
-    below(paths::with_place(alloc, &[], place)?, wrong)
+    match wrong {
+        Some(Wrong::Shape(path)) => {
+            Ok(Some(Wrong::Shape(paths::below_place(alloc, place, &path)?)))
+        }
+        Some(Wrong::Colour(path)) => {
+            Ok(Some(Wrong::Colour(paths::below_place(alloc, place, &path)?)))
+        }
+        None => Ok(None),
+    }
 }
 
 /// A text.
