@@ -1,10 +1,13 @@
-//! Answers cases of stores and texts: a case a line on the standard input, an answer a line on the standard output.
+//! Answers cases of stores, texts, scripts and what goes to the worker: a case a line on the standard input, an answer a line on the standard output.
 #![tactic(auto)]
 
 mod callers;
 mod entries;
+mod scripts;
+mod still;
 mod texts;
 mod values;
+mod worker;
 
 use anyhow::Result;
 use std::alloc::Global;
@@ -22,6 +25,11 @@ fn answer(alloc: Global, line: &str) -> Result<String, CaseFault> {
         "repeat" => texts::repeat(alloc, &case)?,
         "grow" => texts::grow(alloc, &case)?,
         "text" => texts::text(alloc, &case)?,
+        "script" => scripts::script(alloc, &case)?,
+        "script_bytes" => scripts::script_bytes(alloc, &case)?,
+        "script_repeated" => scripts::script_repeated(alloc, &case)?,
+        "map" => worker::place(alloc, &case)?,
+        "batch" => worker::batch(alloc, &case)?,
         _ => return Err(CaseFault::NoCommand),
     };
     one_line(alloc, text.as_str())
