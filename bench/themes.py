@@ -101,14 +101,10 @@ def slope(make, few):
 
 
 def each(call, file, path):
-    """Instructions of one such call. A loop of `meta` alone is taken out of the program by its compiler, so of `meta` the
-    path stands many times, and the reading of it is taken off."""
+    """Instructions of one such call."""
     languages = json.dumps([["source." + it, place + 2] for place, it in enumerate(LANGUAGES)])
     file, path = json.dumps(file), json.dumps(path)
-    if call == "pushed":
-        return slope(lambda count: "pushed_times %d, %s, %s, %s" % (count, file, languages, path), CALLS)
-    known = slope(lambda count: "theme_with %s, %s, []%s" % (file, languages, (", " + path) * count), 10)
-    return known - slope(lambda count: 'selector "-"%s' % ((", " + path) * count), 10)
+    return slope(lambda count: "%s_times %d, %s, %s, %s" % (call, count, file, languages, path), CALLS)
 
 
 def main():
