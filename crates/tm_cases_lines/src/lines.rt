@@ -64,7 +64,9 @@ fn line_of<L: Ledger>(
     requires some { 0 < blank.parts }
     requires limit { 0 < limit }
 {
-    let mut table = StateTable::new(alloc, limit)?;
+    let Ok(mut table) = StateTable::new(alloc, limit) else {
+        return Err(CaseFault::OutOfMemory);
+    };
     let mut steps: Steps<L> = Steps::new(blank);
     if line.as_slice().len() >= LENGTH_BOUND {
         return Err(CaseFault::NoField);
