@@ -3,7 +3,8 @@ pub mod Walked
 pub mod Unopened
 pub mod Flattened
 pub mod Tasked
+pub mod Topological
+pub mod Ordered
 pub mod Lengths
 pub mod Sums
-pub mod Pushes
 pub mod Keys

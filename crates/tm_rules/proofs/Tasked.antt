@@ -29,11 +29,8 @@ module _ (rules : List Rule) where
       ∙ ap (λ (cs : List Candidate). flattened rules (opened_by ts) p ++ cs) (left-visits ps ts)
       ∙ sym (append_assoc (flattened rules (opened_by ts) p) (flat_map (flattened rules (opened_by ts)) ps) (tasks_left rules ts))
 
-  pub opened-begun : (ps : List ℕ) → opened_by (map Visit ps) ≡ []
-  opened-begun ps = ap opened_by (sym (append-nil (map Visit ps))) ∙ opened-visits ps []
-
-  pub left-begun : (ps : List ℕ) → tasks_left rules (map Visit ps) ≡ flat_map (flattened rules []) ps
-  left-begun ps = ap (tasks_left rules) (sym (append-nil (map Visit ps))) ∙ left-visits ps [] ∙ append-nil (flat_map (flattened rules []) ps)
+  pub left-begun : (n : ℕ) → tasks_left rules (Visit n ∷ []) ≡ flattened rules [] n
+  left-begun n = append-nil (flattened rules [] n)
 
   -- an open rule is passed
   pub left-open : (n : ℕ) (ts : List Task) → is_only (slice_get rules n) ≡ true → is_among n (opened_by ts) ≡ true → tasks_left rules ts ≡ flattened rules (opened_by ts) n ++ tasks_left rules ts

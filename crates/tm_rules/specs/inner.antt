@@ -1,5 +1,6 @@
 pub mod Flows
 pub mod Keyed
 pub mod Lists
+pub mod Made
 pub mod Tasks
 pub mod Walk

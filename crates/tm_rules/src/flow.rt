@@ -14,7 +14,7 @@
 //! visit 2, close 0                               gives it again
 //! close 0
 //! ```
-ghost use Rattle.std.specs.Prelude.{◌≡◌, [], ◌++◌, ◌∷◌, true, false, map, get_or, slice_get, slice_set, IfOk, OnOk, MatchOption, Some, None, flat_map};
+ghost use Rattle.std.specs.Prelude.{◌≡◌, [], ◌++◌, ◌∷◌, true, false, map, get_or, slice_get, slice_set, IfOk, OnOk, MatchOption, Some, None};
 ghost use Rattle.tm_rules.specs.Candidates.{flattened};
 ghost use Rattle.tm_rules.specs.Readers.{is_only, patterns_of};
 ghost use Rattle.tm_rules.specs.inner.Flows.{tasks_of, IsFlow};
@@ -45,7 +45,7 @@ pub struct Flow<'a> {
 }
 
 /// Puts visits of the rules on top of the tasks, the first one topmost.
-fn push_visits(tasks: &mut Vec<Task>, numbers: &[u32]) -> Result<(), OutOfMemory>
+pub fn push_visits(tasks: &mut Vec<Task>, numbers: &[u32]) -> Result<(), OutOfMemory>
     ensures { OnOk result (stacked tasks.new.items ≡ map Visit numbers.now ++ stacked tasks.old.items) }
 {
     for i in (0..numbers.len()).rev() {
@@ -55,7 +55,7 @@ fn push_visits(tasks: &mut Vec<Task>, numbers: &[u32]) -> Result<(), OutOfMemory
 }
 
 /// Whether a rule is open.
-fn is_marked(marks: &[bool], number: u32) -> bool
+pub fn is_marked(marks: &[bool], number: u32) -> bool
     ensures { result ≡ get_or marks.now number false }
 {
     match marks.get(number as usize) {
@@ -65,7 +65,7 @@ fn is_marked(marks: &[bool], number: u32) -> bool
 }
 
 /// Says whether a rule is open.
-fn set_mark(marks: &mut Vec<bool>, number: u32, mark: bool)
+pub fn set_mark(marks: &mut Vec<bool>, number: u32, mark: bool)
     ensures { marks.new.items ≡ slice_set marks.old.items number mark }
 {
     let place = number as usize;
@@ -108,7 +108,7 @@ fn patterns_if_only(rule: &Rule) -> Option<&[u32]>
 }
 
 /// The patterns of a rule, where it is an include-only rule.
-fn only_patterns(rules: &[Rule], number: u32) -> Option<&[u32]>
+pub fn only_patterns(rules: &[Rule], number: u32) -> Option<&[u32]>
     ensures { let rule = slice_get rules.now number in
         MatchOption result (is_only rule ≡ false) (λ ps. (is_only rule ≡ true) × (patterns_of rule ≡ ps.now)) }
 {
@@ -154,15 +154,15 @@ impl<'a> Flow<'a> {
         })
     }
 
-    /// Begins with these rules, the first one first.
-    pub fn begin(&mut self, numbers: &[u32]) -> Result<(), OutOfMemory>
+    /// Begins with this rule.
+    pub fn begin(&mut self, number: u32) -> Result<(), OutOfMemory>
         requires flow { IsFlow self.old.rules.now self.old }
         requires ended { tasks_of self.old ≡ [] }
         ensures rules { self.new.rules ≡ self.old.rules }
         ensures flow { OnOk result (IsFlow self.old.rules.now self.new) }
-        ensures left { OnOk result (tasks_left self.old.rules.now (tasks_of self.new) ≡ flat_map (flattened self.old.rules.now []) numbers.now) }
+        ensures left { OnOk result (tasks_left self.old.rules.now (tasks_of self.new) ≡ flattened self.old.rules.now [] number) }
     {
-        push_visits(&mut self.tasks, numbers)?;
+        self.tasks.push(Task::Visit(number))?;
         Ok(())
     }
 

@@ -10,6 +10,7 @@ mod lists;
 mod load;
 mod loaded;
 mod made;
+mod only_lists;
 mod parts;
 pub mod rules;
 mod sizes;

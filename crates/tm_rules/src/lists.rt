@@ -1,17 +1,17 @@
 //! The lists of candidates, made once for each rule.
 //!
-//! By the letter a list can double with each include, so all lists are counted before room is taken.
-//! Where together they pass `CANDIDATE_LIMIT`, or the flattening takes more than `STEP_LIMIT` steps,
-//! the answer is want of memory.
-ghost use Rattle.std.specs.Prelude.{◌≡◌, ◌≤◌, ◌^◌, ◌++◌, [], length, Some, IfOk, OnOk, flat_map, slice_get};
+//! By the letter a list can double with each include, so each is counted before room is taken. Where
+//! together they pass `CANDIDATE_LIMIT`, the answer is want of memory.
+ghost use Rattle.std.specs.Prelude.{◌≡◌, ◌≤◌, ◌<◌, ◌+◌, ◌++◌, [], ◌∷◌, true, false, length, Some, IfOk, OnOk, flat_map, slice_get};
 ghost use Rattle.tm_rules.specs.inner.Lists.{AreLists};
+ghost use Rattle.tm_rules.specs.inner.Made.{AreListed, AreThere, OnlyAreListed};
 ghost use Rattle.tm_rules.specs.Sizes.{rule_limit};
-ghost use Rattle.tm_rules.specs.Candidates.{flattened, with_end, listed};
-ghost use Rattle.tm_rules.specs.inner.Flows.{tasks_of, IsFlow};
-ghost use Rattle.tm_rules.specs.inner.Tasks.{tasks_left};
+ghost use Rattle.tm_rules.specs.Candidates.{flattened, with_end_if, listed};
+ghost use Rattle.tm_rules.specs.Readers.{is_only, patterns_of, end_last_in};
 
 use crate::candidate::Candidate;
-use crate::flow::Flow;
+use crate::flow::only_patterns;
+use crate::only_lists::{OnlyLists, push_all, room_behind};
 use sqlite_items::Items;
 use std::alloc::Global;
 use tm_defs::memory::OutOfMemory;
@@ -20,166 +20,105 @@ use tm_defs::rules::Rule;
 /// All lists together have no more candidates, and so take no more than 32 megabytes.
 const CANDIDATE_LIMIT: u32 = 4_194_304;
 
-/// So many rules are visited or closed at most: some seconds of work. Without it rules that include one
-/// another often and contribute nothing would take a time that doubles with each.
-const STEP_LIMIT: u32 = 1_073_741_824;
-
-/// Adds the starts that the tasks of a flattening contribute, to its end.
-fn push_starts(flow: &mut Flow, list: &mut Vec<Candidate>) -> Result<(), OutOfMemory>
-    requires { IsFlow flow.old.rules.now flow.old }
-    ensures flow { OnOk result (IsFlow flow.old.rules.now flow.new) }
-    ensures ended { OnOk result (tasks_of flow.new ≡ []) }
-    ensures list { OnOk result (list.new.items ≡ list.old.items ++ tasks_left flow.old.rules.now (tasks_of flow.old)) }
+/// The rules that a rule lists, and where it has an end, whether that is tried last.
+fn patterns_and_end(rule: &Rule) -> (&[u32], Option<bool>)
+    ensures patterns { result.0.now ≡ patterns_of (Some rule.now) }
+    ensures end { result.1 ≡ end_last_in (Some rule.now) }
 {
-    for _taken in 0..=CANDIDATE_LIMIT {
-        match flow.next()? {
-            Some(number) => list.push(Candidate::Start(number))?,
-            None => return Ok(()),
-        }
-    }
-    Err(OutOfMemory)
-}
-
-/// Adds what these rules contribute.
-fn push_flattened(
-    flow: &mut Flow,
-    list: &mut Vec<Candidate>,
-    numbers: &[u32],
-) -> Result<(), OutOfMemory>
-    requires flow { IsFlow flow.old.rules.now flow.old }
-    requires ended { tasks_of flow.old ≡ [] }
-    ensures flow { OnOk result (IsFlow flow.old.rules.now flow.new) }
-    ensures ended { OnOk result (tasks_of flow.new ≡ []) }
-    ensures list { OnOk result (list.new.items ≡ list.old.items ++ flat_map (flattened flow.old.rules.now []) numbers.now) }
-{
-    flow.begin(numbers)?;
-    push_starts(flow, list)
-}
-
-/// The list of a rule.
-fn list_of(
-    alloc: Global,
-    flow: &mut Flow,
-    rule: &Rule,
-    number: u32,
-    length: u32,
-) -> Result<Items<Candidate>, OutOfMemory>
-    requires flow { IsFlow flow.old.rules.now flow.old }
-    requires ended { tasks_of flow.old ≡ [] }
-    requires rule { slice_get flow.old.rules.now number ≡ Some rule.now }
-    ensures flow { OnOk result (IsFlow flow.old.rules.now flow.new) }
-    ensures ended { OnOk result (tasks_of flow.new ≡ []) }
-    ensures list { IfOk result (λ list. list ≡ listed flow.old.rules.now number) }
-{
-    let mut list = Vec::with_capacity(alloc, length as usize)?;
     match rule {
-        Rule::Match { .. } => list.push(Candidate::Start(number))?,
-        Rule::Only { .. } => push_flattened(flow, &mut list, &[number])?,
-        Rule::BeginWhile { patterns, .. } => {
-            list.push(Candidate::Start(number))?;
-            push_flattened(flow, &mut list, patterns.as_slice())?;
-        }
+        Rule::Match { .. } => (&[], None),
+        Rule::Only { patterns, .. } => (patterns.as_slice(), None),
+        Rule::BeginWhile { patterns, .. } => (patterns.as_slice(), None),
         Rule::BeginEnd {
             patterns,
             end_last,
             ..
-        } => {
-            list.push(Candidate::Start(number))?;
-            push_with_end(flow, &mut list, patterns.as_slice(), *end_last)?;
-        }
+        } => (patterns.as_slice(), Some(*end_last)),
     }
-    Ok(Items::from_vec(list))
 }
 
-/// Adds what these rules contribute, with an end first or last.
+/// Adds what these rules contribute, with an end last or first, or none.
 fn push_with_end(
-    flow: &mut Flow,
+    rules: &[Rule],
+    lists: &[Items<Candidate>],
     list: &mut Vec<Candidate>,
     numbers: &[u32],
-    last: bool,
+    last: Option<bool>,
 ) -> Result<(), OutOfMemory>
-    requires flow { IsFlow flow.old.rules.now flow.old }
-    requires ended { tasks_of flow.old ≡ [] }
-    ensures flow { OnOk result (IsFlow flow.old.rules.now flow.new) }
-    ensures ended { OnOk result (tasks_of flow.new ≡ []) }
-    ensures list { OnOk result (list.new.items ≡ list.old.items ++ with_end last (flat_map (flattened flow.old.rules.now []) numbers.now)) }
+    requires { AreThere rules.now lists.now numbers.now }
+    ensures { OnOk result (list.new.items ≡ list.old.items ++ with_end_if last (flat_map (flattened rules.now []) numbers.now)) }
 {
-    if last {
-        push_flattened(flow, list, numbers)?;
-        list.push(Candidate::End)?;
-    } else {
-        list.push(Candidate::End)?;
-        push_flattened(flow, list, numbers)?;
+    match last {
+        None => push_all(rules, lists, list, numbers)?,
+        Some(true) => {
+            push_all(rules, lists, list, numbers)?;
+            list.push(Candidate::End)?;
+        }
+        Some(false) => {
+            list.push(Candidate::End)?;
+            push_all(rules, lists, list, numbers)?;
+        }
     }
     Ok(())
 }
 
-/// How many starts these rules contribute, where they fit the room that is left.
-fn count_flattened(flow: &mut Flow, numbers: &[u32], room: u32) -> Result<u32, OutOfMemory>
-    requires flow { IsFlow flow.old.rules.now flow.old }
-    requires ended { tasks_of flow.old ≡ [] }
-    ensures flow { OnOk result (IsFlow flow.old.rules.now flow.new) }
-    ensures ended { OnOk result (tasks_of flow.new ≡ []) }
-    ensures fits { IfOk result (λ count. count ≤ room) }
+/// The list of a rule that is no include-only rule; it is counted before room is taken.
+fn own_list(
+    alloc: Global,
+    rules: &[Rule],
+    lists: &[Items<Candidate>],
+    number: u32,
+    room: &mut u32,
+) -> Result<Items<Candidate>, OutOfMemory>
+    requires within { number < length rules.now }
+    requires plain { is_only (slice_get rules.now number) ≡ false }
+    requires only { OnlyAreListed rules.now lists.now }
+    ensures { IfOk result (λ list. list ≡ listed rules.now number) }
 {
-    flow.begin(numbers)?;
-    for count in 0..=room {
-        if flow.next()?.is_none() {
-            return Ok(count);
-        }
+    let (patterns, last) = patterns_and_end(&rules[number as usize]);
+    let own = if last.is_some() { 2 } else { 1 };
+    let left = room_behind(rules, lists, patterns, *room)?;
+    if left < own {
+        return Err(OutOfMemory);
     }
-    Err(OutOfMemory)
+    let left = left - own;
+    let mut list = Vec::with_capacity(alloc, (*room - left) as usize)?;
+    *room = left;
+    list.push(Candidate::Start(number))?;
+    push_with_end(rules, lists, &mut list, patterns, last)?;
+    Ok(Items::from_vec(list))
 }
 
-/// How many candidates the list of a rule has, where they fit the room that is left.
-fn count_of(flow: &mut Flow, rule: &Rule, number: u32, room: u32) -> Result<u32, OutOfMemory>
-    requires flow { IsFlow flow.old.rules.now flow.old }
-    requires ended { tasks_of flow.old ≡ [] }
-    requires room { room ≤ 2 ^ 30 }
-    ensures flow { OnOk result (IsFlow flow.old.rules.now flow.new) }
-    ensures ended { OnOk result (tasks_of flow.new ≡ []) }
+/// Makes the list of a rule, unless it is an include-only rule, which has one.
+fn make(
+    alloc: Global,
+    rules: &[Rule],
+    lists: &mut Vec<Items<Candidate>>,
+    number: u32,
+    room: &mut u32,
+) -> Result<(), OutOfMemory>
+    requires within { number < length rules.now }
+    requires listed { AreListed rules.now lists.old.items number }
+    ensures { OnOk result (AreListed rules.now lists.new.items (number + 1)) }
 {
-    match rule {
-        Rule::Match { .. } => Ok(1),
-        Rule::Only { .. } => count_flattened(flow, &[number], room),
-        Rule::BeginWhile { patterns, .. } => {
-            Ok(1 + count_flattened(flow, patterns.as_slice(), room)?)
-        }
-        Rule::BeginEnd { patterns, .. } => {
-            Ok(2 + count_flattened(flow, patterns.as_slice(), room)?)
-        }
+    if only_patterns(rules, number).is_some() {
+        return Ok(());
     }
+    let list = own_list(alloc, rules, lists.as_slice(), number, room)?;
+    lists[number as usize] = list;
+    Ok(())
 }
 
-/// How many candidates the list of each rule has, where all of them are not too many.
-fn counts_of(alloc: Global, rules: &[Rule]) -> Result<Vec<u32>, OutOfMemory>
-    requires { length rules.now ≤ rule_limit }
-{
-    let mut flow = Flow::new(alloc, rules, STEP_LIMIT)?;
-    let mut counts = Vec::new(alloc);
-    let mut room = CANDIDATE_LIMIT;
-    for i in 0..rules.len() {
-        let count = count_of(&mut flow, &rules[i], i as u32, room)?;
-        if room < count {
-            return Err(OutOfMemory);
-        }
-        room -= count;
-        counts.push(count)?;
-    }
-    Ok(counts)
-}
-
-/// The list of each rule. They are counted before room is taken.
+/// The list of each rule.
 pub fn lists_of(alloc: Global, rules: &[Rule]) -> Result<Vec<Items<Candidate>>, OutOfMemory>
     requires { length rules.now ≤ rule_limit }
     ensures { IfOk result (λ lists. AreLists rules.now lists.items) }
 {
-    let counts = counts_of(alloc, rules)?;
-    let mut flow = Flow::new(alloc, rules, STEP_LIMIT)?;
-    let mut lists = Vec::with_capacity(alloc, rules.len())?;
+    let made = OnlyLists::build(alloc, rules, CANDIDATE_LIMIT)?;
+    let mut lists = made.lists;
+    let mut room = made.room;
     for i in 0..rules.len() {
-        let length = counts.get(i).copied().unwrap_or(0);
-        lists.push(list_of(alloc, &mut flow, &rules[i], i as u32, length)?)?;
+        make(alloc, rules, &mut lists, i as u32, &mut room)?;
     }
     Ok(lists)
 }

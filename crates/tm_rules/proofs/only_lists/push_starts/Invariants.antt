@@ -1,7 +1,7 @@
 use Rattle.std.proofs.Common.{◌≡◌, ◌++◌}
 use Rattle.tm_rules.specs.inner.Flows.{tasks_of, IsFlow}
 use Rattle.tm_rules.specs.inner.Tasks.{tasks_left}
-use Rattle.tm_rules.proofs.lists.push_starts.Given as goal
+use Rattle.tm_rules.proofs.only_lists.push_starts.Given as goal
 
 abbrev pub invariant-loop-taken : goal.invariant-loop-taken
 invariant-loop-taken l = record {
