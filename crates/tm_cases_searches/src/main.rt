@@ -5,6 +5,7 @@
 #![tactic(auto)]
 
 mod lines;
+mod memos;
 mod places;
 mod scans;
 mod searches;
@@ -38,6 +39,8 @@ fn answer_of(alloc: Global, case: &Case) -> Result<String, CaseFault> {
         "grow" => scans::grow(alloc, case),
         "first" => scans::first(alloc, case),
         "instead" => places::instead(alloc, case),
+        "memo" => memos::memo(alloc, case),
+        "memo_among" => memos::memo_among(alloc, case),
         _ => answer_of_text(alloc, case),
     }
 }

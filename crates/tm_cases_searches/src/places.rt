@@ -12,7 +12,7 @@ use tm_onig_vm::program::{Prog, Room, compile};
 use tm_onig_vm::starts::Anchors;
 
 /// The program of a text, or none where it is unreadable; none for `null`.
-fn program_of(alloc: Global, text: &Value) -> Result<Option<Prog>, CaseFault> {
+pub fn program_of(alloc: Global, text: &Value) -> Result<Option<Prog>, CaseFault> {
     let Some(text) = text.as_str() else {
         return Ok(None);
     };

@@ -39,8 +39,8 @@ fn program_of(rt: &HostRuntime, pattern: &Pattern) -> Result<Prog> {
     }
 }
 
-/// Prints start and end of the match in a line, `none`, or `budget` where the search was ended, and how much of
-/// the budget was taken.
+/// Prints start and end of the match in a line, or `none`, and how much of the budget was taken; `budget` where it
+/// was used up and ended the search.
 fn seek(rt: &HostRuntime, prog: &Prog, text: &str, budget: u64) -> Result<()> {
     let chars = chars_of(rt, text)?;
     if chars.len() >= TOO_LONG {
@@ -56,7 +56,7 @@ fn seek(rt: &HostRuntime, prog: &Prog, text: &str, budget: u64) -> Result<()> {
             _ => println!(rt; "? {cost}")?,
         },
         Ok(None) => println!(rt; "none {cost}")?,
-        Err(FindFault::Budget) => println!(rt; "budget {cost}")?,
+        Err(FindFault::Budget) => println!(rt; "budget")?,
         Err(FindFault::OutOfMemory) => bail!("out of memory"),
     }
     Ok(())

@@ -30,7 +30,7 @@ fn members(
     let Ok(set) = sets.named(alloc, named, false) else {
         return Err(AtomFault::OutOfMemory);
     };
-    set.exact();
+    set.prove_exact();
     let fold = options.fold;
     Ok(Pattern::Set { set, fold })
 }

@@ -138,7 +138,7 @@ pub(crate) fn class_body<'a>(
             let Ok(set) = class_set(alloc, sets, fold, negated, &parts) else {
                 return Err(AtomFault::OutOfMemory);
             };
-            set.exact();
+            set.prove_exact();
             let height = highest(&parts) + 1;
             Ok((Body { set, height }, rest))
         }

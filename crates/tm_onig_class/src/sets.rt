@@ -62,7 +62,7 @@ impl Set {
     }
 
     /// Law: a set has the ranges of whatever test its members pass.
-    pub fn exact(&self)
+    pub fn prove_exact(&self)
         ensures { (test : ℕ → Bool) → ((c : ℕ) → IsChar c → has_char self.now c ≡ test c) → self.now ≡ ranges_of test }
     {
         let _class = &self.class;

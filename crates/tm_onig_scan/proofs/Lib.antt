@@ -4,3 +4,6 @@ mod Earliest
 mod Only
 mod Tried
 mod Rows
+mod Elsewhere
+mod Remembered
+mod Steadied

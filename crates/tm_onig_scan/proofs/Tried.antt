@@ -329,16 +329,58 @@ module _ (line : List ℕ) (from : ℕ) (allow_a allow_g : Bool) where
   none_wins ps miss (Some w) h =
       absurd (none-some h.least.hit (sym (miss w.0 h.tree h.least.start h.listed h.least.from_first h.least.to_end) ∙ h.least.matches))
 
-  pub pass_winner : (ps : List (Option Tree)) → (pass_from s (length line + 1 - from) from ps).winner ≡ earliest_winner line from allow_a allow_g ps
-  pass_winner ps = go (pass_from s (length line + 1 - from) from ps).winner (passed (length line + 1 - from) from ps (omega arith) refl (λ j t start e low high. absurd (omega arith)))
+  -- a pass that begins later, where no match begins before
+  later_winner : (q : ℕ) (ps : List (Option Tree)) → from ≤ q → MissBefore q ps → (pass_from s (length line + 1 - q) q ps).winner ≡ earliest_winner line from allow_a allow_g ps
+  later_winner q ps low before = go (pass_from s (length line + 1 - q) q ps).winner (passed (length line + 1 - q) q ps low refl before)
     where
       go : (o : Option (ℕ × Caps)) → MatchOption o (MissAll ps) (IsWinner line from allow_a allow_g ps) → o ≡ earliest_winner line from allow_a allow_g ps
       go None miss = sym (none_wins ps miss (earliest_winner line from allow_a allow_g ps) (earliest line from allow_a allow_g ps))
       go (Some w) h = sym (only line from allow_a allow_g ps w h)
 
+  pub pass_winner : (ps : List (Option Tree)) → (pass_from s (length line + 1 - from) from ps).winner ≡ earliest_winner line from allow_a allow_g ps
+  pass_winner ps = later_winner from ps (omega arith) (λ j t start e low high. absurd (omega arith))
+
+  -- what the plain searches cost from a later start on
+  rest_over : (q : ℕ) (ps : List (Option Tree)) → length line < q → rest_cost q ps ≡ 0
+  unfolding first_of
+  rest_over q [] past = refl
+  rest_over q (None ∷ ps) past = rest_over q ps past
+  rest_over q (Some t ∷ ps) past = let e : length line + 1 - q ≡ zero = omega arith in let on = rest_over q ps past in rw e (omega arith)
+
+  rest_missed : (q : ℕ) (ps : List (Option Tree)) → q ≤ length line → MissHere q ps → rest_cost (q + 1) ps ≤ rest_cost q ps
+  rest_missed q [] fits miss = omega arith
+  rest_missed q (None ∷ ps) fits miss = rest_missed q ps fits (λ j t e. miss (suc j) t e)
+  rest_missed q (Some t ∷ ps) fits miss =
+      let here = left_none q t fits (miss 0 t refl) in
+      let on = rest_missed q ps fits (λ j t2 e. miss (suc j) t2 e) in omega arith
+
+  rest_later : (n q : ℕ) (ps : List (Option Tree)) → q ≡ from + n → MissBefore q ps → rest_cost q ps ≤ rest_cost from ps
+  rest_later zero q ps is before = let e : q ≡ from = omega arith in rw e (omega arith)
+  rest_later (suc n) q ps is before =
+      go (nat_lt (length line) (from + n)) refl (rest_later n (from + n) ps refl (λ j t start e low high. before j t start e low (omega arith)))
+    where
+      p : ℕ
+      p = from + n
+
+      next : q ≡ p + 1
+      next = omega arith
+
+      go : (b : Bool) → nat_lt (length line) p ≡ b → rest_cost p ps ≤ rest_cost from ps → rest_cost q ps ≤ rest_cost from ps
+      go true past below = let over = rest_over q ps (grind (arith, nat_tests)) in omega arith
+      go false not_past below =
+          let fits : p ≤ length line = grind (arith, nat_tests) in
+          let most = rest_missed p ps fits (λ j t e. before j t p e (omega arith) (omega arith)) in
+          let same : rest_cost q ps ≡ rest_cost (p + 1) ps = ap (λ (x : ℕ). rest_cost x ps) next in omega arith
+
   -- what the searches one after another find and cost
   abbrev pub plainly : List (Option Tree) → Pass
   plainly ps = record { winner = earliest_winner line from allow_a allow_g ps; cost = scan_cost line from allow_a allow_g ps }
+
+  pub later_part : (q : ℕ) (ps : List (Option Tree)) → from ≤ q → MissBefore q ps → IsPart (pass_from s (length line + 1 - q) q ps) (plainly ps)
+  later_part q ps low before =
+      let most = from_cost (length line + 1 - q) q ps refl in
+      let less = rest_later (q - from) q ps (omega arith) before in
+      let all = all_cost ps in record { found = later_winner q ps low before; spent = omega arith }
 
   pub plain_part : (ps : List (Option Tree)) → IsPart (pass_from s (length line + 1 - from) from ps) (plainly ps)
   plain_part ps = record { found = pass_winner ps; spent = pass_cost ps }

@@ -3,7 +3,7 @@ use Rattle.std.specs.Option.{option_copied}
 use Rattle.std.specs.Prelude.{List, Option, Some, None, option_map, slice_set}
 use Rattle.tm_onig_class.specs.Tree.{Tree, tree_of}
 use Rattle.tm_onig_search.specs.Places.{Subject}
-use Rattle.tm_onig_vm.specs.Anchors.{subject_of}
+use Rattle.tm_onig_vm.specs.inner.Anchors.{subject_of}
 use Rattle.tm_onig_scan.specs.Winner.{trees_of, patterns_at}
 use Rattle.tm_onig_scan.specs.declared.asked.Asked.{Asked}
 use Rattle.tm_onig_scan.specs.declared.asked.Instead.{Instead}

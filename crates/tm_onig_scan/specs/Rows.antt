@@ -3,6 +3,7 @@ use Rattle.std.specs.Prelude.{◌≡◌, ℕ, ◌+◌, ◌<◌, ◌≤◌, lengt
 use Rattle.tm_onig_class.specs.Tree.{Tree}
 use Rattle.tm_onig_vm.specs.First.{NeverStarts, next_class}
 use Rattle.tm_onig_scan.specs.Winner.{patterns_at}
+use Rattle.tm_onig_scan.specs.Steady.{all_steady}
 use Rattle.tm_onig_scan.specs.declared.candidates.Row.{Row}
 use Rattle.tm_onig_scan.specs.declared.candidates.Candidates.{Candidates}
 
@@ -44,8 +45,9 @@ row_at rows (Some number) = places_of (slice_get rows number)
 abbrev pub AreRows : List (Option Tree) → Option Bool → List Row → List ℕ → Type 0
 AreRows ps behind rows numbers = (next : Option ℕ) → IsRow behind next 0 ps (row_at rows (slice_get numbers (next_class next)))
 
--- the rows of the list are those of its patterns
+-- The rows of the list are those of its patterns, and it is steady where all its patterns are.
 pub record AreCandidates (patterns : List (Option Tree)) (it : Candidates) : Type 0 where
+  pub steady : it.steady ≡ all_steady (patterns_at patterns it.numbers.items)
   pub unknown : AreRows (patterns_at patterns it.numbers.items) None it.rows.items it.unknown.items
   pub word : AreRows (patterns_at patterns it.numbers.items) (Some true) it.rows.items it.word.items
   pub other : AreRows (patterns_at patterns it.numbers.items) (Some false) it.rows.items it.other.items

@@ -10,6 +10,8 @@ ghost use Rattle.tm_onig_vm.specs.First.{next_class};
 ghost use Rattle.tm_onig_scan.specs.Winner.{trees_of, pattern_at, patterns_at};
 ghost use Rattle.tm_onig_scan.specs.Rows.{AreCandidates, AreRows, IsRow, NeverStartsIf, Keeps, AreKeptRows, places_of};
 
+use crate::programs::program_of_place;
+use crate::steady::listed_steady;
 use std::alloc::Global;
 use tm_defs::memory::OutOfMemory;
 use tm_onig_vm::program::Prog;
@@ -23,39 +25,16 @@ pub struct Row {
 
 /// The numbers of patterns, in the order in which they are tried, and for each class of a next character the
 /// row of those that may start before it, by its number among the rows: where nothing is known of the character
-/// before, behind a word's character, and behind any other. Classes with equal rows share one.
+/// before, behind a word's character, and behind any other. Classes with equal rows share one. The list is `steady`
+/// where neither `\A` nor `\G` stands in one of its patterns.
 #[derive(Drop)]
 pub struct Candidates {
     pub numbers: Vec<u32>,
+    pub steady: bool,
     pub rows: Vec<Row>,
     pub unknown: Vec<u32>,
     pub word: Vec<u32>,
     pub other: Vec<u32>,
-}
-
-/// The program of a number, if it has one; a number beyond the list has none.
-pub(crate) fn program_at(programs: &[Option<Prog>], number: u32) -> Option<&Prog>
-    ensures { option_map tree_of (option_copied result) ≡ pattern_at (trees_of programs.now) number }
-{
-    match programs.get(number as usize) {
-        Some(Some(program)) => Some(program),
-        _ => None,
-    }
-}
-
-/// The program of the number at a place.
-#[tactic(auto, using(crate::proofs::Rows::pattern_of_place))]
-pub(crate) fn program_of_place<'a>(
-    programs: &'a [Option<Prog>],
-    numbers: &[u32],
-    place: u32,
-) -> Option<&'a Prog>
-    ensures { option_map tree_of (option_copied result) ≡ pattern_at (patterns_at (trees_of programs.now) numbers.now) place }
-{
-    match numbers.get(place as usize) {
-        Some(number) => program_at(programs, *number),
-        None => None,
-    }
 }
 
 /// Whether a pattern may start there.
@@ -170,12 +149,14 @@ pub(crate) fn candidates_of(
     ensures numbers { IfOk result (λ made. made.numbers.items ≡ numbers.items) }
     ensures right { IfOk result (λ made. AreCandidates (trees_of programs.now) made) }
 {
+    let steady = listed_steady(programs, &numbers);
     let mut rows = Vec::new(alloc);
     let unknown = made_rows(alloc, programs, &numbers, None, &[], &mut rows)?;
     let word = made_rows(alloc, programs, &numbers, Some(true), &unknown, &mut rows)?;
     let other = made_rows(alloc, programs, &numbers, Some(false), &unknown, &mut rows)?;
     Ok(Candidates {
         numbers,
+        steady,
         rows,
         unknown,
         word,

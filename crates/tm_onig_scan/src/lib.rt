@@ -17,7 +17,7 @@
 #![tactic(auto)]
 
 ghost use Rattle.std.specs.Option.{option_copied};
-ghost use Rattle.std.specs.Prelude.{◌≡◌, ◌↔◌, ◌+◌, ◌++◌, ◌<◌, ◌≤◌, ◌^◌, ◌-◌, ℕ, Bool, List, [], ◌∷◌, Option, length, map, option_map, Some, IsTrue, OnOk, OnErr, IfOk, IfSome, IsErrOf, slice_get};
+ghost use Rattle.std.specs.Prelude.{◌≡◌, ◌↔◌, ◌+◌, ◌++◌, ◌<◌, ◌≤◌, ◌^◌, ◌-◌, ℕ, Bool, List, [], ◌∷◌, Option, length, map, option_map, Some, IsTrue, true, OnOk, OnErr, IfOk, IfSome, IsErrOf, slice_get};
 ghost use Rattle.tm_onig_class.specs.Tree.{Tree, tree_of};
 ghost use Rattle.tm_onig_parse.specs.Parsed.{parsed};
 ghost use Rattle.tm_onig_search.specs.Outcomes.{Caps};
@@ -25,16 +25,22 @@ ghost use Rattle.tm_onig_scan.specs.Winner.{trees_of, parsed_if, pattern_at, pat
 ghost use Rattle.tm_onig_scan.specs.Asked.{put_in};
 ghost use Rattle.tm_onig_scan.specs.Pass.{Pass, pass_from};
 ghost use Rattle.tm_onig_scan.specs.Rows.{AreCandidates};
+ghost use Rattle.tm_onig_scan.specs.Steady.{is_steady};
+ghost use Rattle.tm_onig_search.specs.Find.{hit_at};
 ghost use Rattle.tm_onig_search.specs.Places.{subject};
 ghost use Rattle.tm_onig_scan.specs.WinnerLaws.{IsEarliest, IsWinner};
 
 pub mod asked;
 pub mod candidates;
+pub mod memo;
 mod passes;
+mod programs;
+mod steady;
 
 use asked::{Asked, Instead};
-use candidates::{Candidates, candidates_of, program_at};
+use candidates::{Candidates, candidates_of};
 use passes::{Job, pass};
+use programs::program_at;
 use std::alloc::Global;
 use std::marker::Model;
 use tm_defs::caps::Caps;
@@ -323,6 +329,13 @@ pub fn one_pass_is_enough()
         (pass_from (subject line from allow_a allow_g) (length line + 1 - from) from patterns).winner ≡ earliest_winner line from allow_a allow_g patterns }
     ensures cost { (line : List ℕ) (from : ℕ) (allow_a allow_g : Bool) (patterns : List (Option Tree)) →
         (pass_from (subject line from allow_a allow_g) (length line + 1 - from) from patterns).cost ≤ scan_cost line from allow_a allow_g patterns }
+{}
+
+/// Law: what a pattern without `\A` and `\G` matches at a start is the same wherever the search began.
+#[tactic(auto, using(crate::proofs::Elsewhere::hit_alike))]
+pub fn prove_steady()
+    ensures { (t : Tree) → is_steady t ≡ true → (line : List ℕ) (start first second : ℕ) (allow_a allow_g also_a also_g : Bool) →
+        hit_at t line first allow_a allow_g start ≡ hit_at t line second also_a also_g start }
 {}
 
 fn crosses<T: Send + Sync>(value: &T) {

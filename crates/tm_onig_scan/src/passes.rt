@@ -9,7 +9,8 @@ ghost use Rattle.tm_onig_scan.specs.Rows.{AreCandidates, places_before, places_f
 ghost use Rattle.tm_onig_scan.specs.Winner.{patterns_at};
 
 use crate::asked::{Asked, Instead};
-use crate::candidates::{Candidates, program_at, program_of_place, row_of};
+use crate::candidates::{Candidates, row_of};
+use crate::programs::{program_at, program_of_place};
 use std::alloc::Global;
 use tm_defs::caps::Caps;
 use tm_onig_vm::fault::FindFault;
@@ -41,7 +42,7 @@ fn at_start(asked: Asked, start: usize) -> At
     At {
         start,
         behind: known_behind(asked.text, asked.anchors, start),
-        class: class_of(asked.text.get(start).copied()),
+        class: class_of(asked.text, start),
     }
 }
 

@@ -1,5 +1,5 @@
 -- The characters of words in ASCII.
-use Rattle.std.proofs.Common.{◌≡◌, ℕ, zero, suc, ◌<◌, ◌==◌, Bool, true, false, not, ◌&&◌, if◌then◌else◌, true≢false, refl, sym, ◌∙◌, arith}
+use Rattle.std.proofs.Common.{◌≡◌, ℕ, zero, suc, ◌<◌, ◌==◌, Bool, true, false, not, ◌&&◌, if◌then◌else◌, true≢false, refl, sym, ap, ◌∙◌, arith}
 use Rattle.std.proofs.lemmas.Bool.Decides.{nat_tests}
 use Rattle.regex_class.specs.Ranges.{in_ranges}
 use Rattle.ucd_category.proofs.Computing.{ucd_category}
@@ -48,3 +48,10 @@ all_agree = refl
 
 pub ascii_word : (c : ℕ) → c < 128 → has_bit 0x07FFFFFE87FFFFFE03FF000000000000 c ≡ in_listed L.Word c
 ascii_word c low = agreed (has_bit 0x07FFFFFE87FFFFFE03FF000000000000) (in_listed L.Word) 128 c all_agree low
+
+others_agree : agree (has_bit 0xF800000178000001FC00FFFFFFFFFFFF) (λ c. not (has_bit 0x07FFFFFE87FFFFFE03FF000000000000 c)) 128 ≡ true
+unfolding agree
+others_agree = refl
+
+pub ascii_other : (c : ℕ) → c < 128 → has_bit 0xF800000178000001FC00FFFFFFFFFFFF c ≡ not (in_listed L.Word c)
+ascii_other c low = agreed (has_bit 0xF800000178000001FC00FFFFFFFFFFFF) (λ d. not (has_bit 0x07FFFFFE87FFFFFE03FF000000000000 d)) 128 c others_agree low ∙ ap not (ascii_word c low)

@@ -9,12 +9,13 @@ use Rattle.tm_onig_vm.specs.declared.code.Instr.{Instr}
 use Rattle.tm_onig_vm.specs.declared.code.Instr.TheVariants as I
 use Rattle.std.specs.Prelude.{option_map}
 use Rattle.tm_onig_search.specs.Widths.{least_width, greatest_width}
-use Rattle.tm_onig_vm.specs.Near.{near}
-use Rattle.tm_onig_vm.specs.Size.{code_size, code_sizes}
+use Rattle.tm_onig_vm.specs.inner.Near.{near}
+use Rattle.tm_onig_vm.specs.inner.Size.{code_size, code_sizes}
 use Rattle.tm_onig_vm.specs.declared.singles.Single.{Single}
-use Rattle.tm_onig_vm.specs.Single.{is_single, is_span, single_tree, fits}
+use Rattle.tm_onig_vm.specs.declared.singles.Single.TheVariants as S
+use Rattle.tm_onig_vm.specs.inner.Single.{is_single, is_span, single_tree, fits}
 use Rattle.tm_onig_vm.proofs.Rounds.{single_is}
-use Rattle.tm_onig_vm.specs.Code.{Code, AheadCode, BehindCode, RowCode, AnyCode, Grows, Adds}
+use Rattle.tm_onig_vm.specs.inner.Code.{Code, AheadCode, BehindCode, RowCode, AnyCode, Grows, Adds}
 
 get_push_old : (xs : List Instr) (y x : Instr) (i : ℕ) → slice_get xs i ≡ Some x → slice_get (xs ++ y ∷ []) i ≡ Some x
 get_push_old [] y x i e = absurd (none-some x e)
@@ -74,9 +75,9 @@ module _ (a b : List Instr) (more : Extends a b) where
   mutual
     pub code_extends : (t : Tree) (pc next : ℕ) → Code a t pc next → Code b t pc next
     code_extends Empty pc next here = more pc (I.Step next) here (λ e. cc)
-    code_extends (Char c fold) pc next here = more pc (I.Char c fold next) here (λ e. cc)
-    code_extends (Any newline) pc next here = more pc (I.Any newline next) here (λ e. cc)
-    code_extends (InSet set fold) pc next here = more pc (I.Member set fold next) here (λ e. cc)
+    code_extends (Char c fold) pc next here = (here.0, here.1, more pc (I.One here.0 next) here.2 (λ e. cc))
+    code_extends (Any newline) pc next here = (here.0, here.1, more pc (I.One here.0 next) here.2 (λ e. cc))
+    code_extends (InSet set fold) pc next here = (here.0, here.1, more pc (I.One here.0 next) here.2 (λ e. cc))
     code_extends (Cat ts) pc next here = (here.0, more pc (I.Step here.0) here.1 (λ e. cc), row_extends ts here.0 next here.2)
     code_extends (Alt ts) pc next here = (here.0, more pc (I.Choice here.0) here.1 (λ e. cc), any_extends ts here.0 next here.2)
     code_extends (Group number t) pc next here =
@@ -134,6 +135,15 @@ module _ (old code1 new : List Instr) (i : Instr) (pc next : ℕ) (grows : Grows
   -- the instruction of a pattern that is a single one, or whose parts were made before
   pub leaf_done : (t : Tree) → (slice_get new pc ≡ Some i → Code new t pc next) → Adds old code1 0 → code_size t ≡ 1 → Grows old new × Code new t pc next × Adds old new (code_size t)
   leaf_done t here none one = (all_grows, here (at_push code1 new i pc pushed at), let more1 = one_more in omega arith)
+
+  -- one character
+  pub one_done : (t : Tree) (x : Single) → i ≡ I.One x next → t ≡ single_tree x → Adds old code1 0 → Grows old new × Code new t pc next × Adds old new (code_size t)
+  one_done t x is of none = rw of (go x is)
+    where
+      go : (x : Single) → i ≡ I.One x next → Grows old new × Code new (single_tree x) pc next × Adds old new (code_size (single_tree x))
+      go (S.Char c fold) is = (all_grows, (S.Char c fold, refl, rw is at (at_push code1 new i pc pushed at)), let more1 = one_more in omega arith)
+      go (S.Any newline) is = (all_grows, (S.Any newline, refl, rw is at (at_push code1 new i pc pushed at)), let more1 = one_more in omega arith)
+      go (S.Member set fold) is = (all_grows, (S.Member set fold, refl, rw is at (at_push code1 new i pc pushed at)), let more1 = one_more in omega arith)
 
   -- a greedy loop over one character
   pub span_done : (t : Tree) (least : ℕ) (greatest : Option ℕ) (greedy : Bool) (x : Single) → i ≡ I.Span x least greatest next → t ≡ single_tree x → greedy ≡ true → fits least greatest ≡ true → Adds old code1 0 →

@@ -1,15 +1,18 @@
 -- Tables of characters put together.
-use Rattle.std.proofs.Common.{◌≡◌, ℕ, zero, suc, ◌<◌, ◌-◌, max, min, bit_and, bit_or, Bool, true, false, cond, ◌||◌, ◌&&◌, ◌==◌, nat_lt, Option, Some, None, List, map, drop, length, get_or, ◌≤◌, refl, ap, ◌∙◌, arith}
+use Rattle.std.proofs.Common.{◌≡◌, ℕ, zero, suc, ◌<◌, ◌-◌, max, min, bit_and, bit_or, Bool, true, false, cond, ◌||◌, ◌&&◌, ◌==◌, not, nat_lt, Option, Some, None, List, [], ◌∷◌, map, drop, length, get_or, ◌≤◌, refl, ap, ◌∙◌, arith}
 use Rattle.std.specs.Int.{bit_at}
 use Rattle.std.proofs.lemmas.Bool.Decides.{nat_tests}
 use Rattle.std.proofs.lemmas.Nat.Bits.{bit_at_or, bit_at_and, bit_at-lt, bit_at_ones}
 use Rattle.tm_onig_class.specs.Ascii.{has_bit}
 use Rattle.tm_onig_class.specs.declared.patterns.Pattern.{Pattern}
 use Rattle.tm_onig_class.specs.Tree.{Tree, tree_of, trees}
-use Rattle.tm_onig_search.specs.Starts.{may_start, may_start_row, may_start_any}
+use Rattle.tm_onig_class.specs.Listed.{in_listed}
+use Rattle.tm_onig_class.specs.declared.listed.Listed.TheVariants as L
+use Rattle.tm_onig_search.specs.Starts.{may_pass, may_start, may_start_row, may_start_any}
 use Rattle.tm_onig_vm.specs.declared.first.First.{First}
 use Rattle.tm_onig_vm.specs.declared.first.Firsts.{Firsts}
-use Rattle.tm_onig_vm.specs.First.{in_first, in_class, next_class, AreFirst, AreFirsts}
+use Rattle.tm_onig_vm.specs.First.{in_first, in_class, next_class, may_follow, may_follow_first, AreFirst, AreFirsts}
+use Rattle.tm_onig_vm.proofs.Ascii.{ascii_word, ascii_other}
 use Rattle.tm_onig_vm.proofs.Parts.{parts_at, no_parts}
 
 one_of : (p q : ℕ) → p < 2 → q < 2 → (max p q == 1) ≡ ((p == 1) || (q == 1))
@@ -68,6 +71,23 @@ in_first-every (Some c) = go (nat_lt c 128) refl
     go true e = let lt : c < 128 = grind (arith, nat_tests) in ap (λ b. b == 1) (bit_at_ones 128 c lt)
     go false e = refl
 
+-- the characters of words, and the others
+pub in_first-word : (next : Option ℕ) → let it : First = record { ascii = 0x07FFFFFE87FFFFFE03FF000000000000; beyond = true; end = false } in in_first it next ≡ may_pass false (in_listed L.Word) next
+in_first-word None = refl
+in_first-word (Some c) = go (nat_lt c 128) refl
+  where
+    go : (low : Bool) → nat_lt c 128 ≡ low → cond low (has_bit 0x07FFFFFE87FFFFFE03FF000000000000 c) true ≡ cond low (in_listed L.Word c) true
+    go true e = ascii_word c (grind (arith, nat_tests))
+    go false e = refl
+
+pub in_first-other : (next : Option ℕ) → let it : First = record { ascii = 0xF800000178000001FC00FFFFFFFFFFFF; beyond = true; end = true } in in_first it next ≡ may_pass true (λ c. not (in_listed L.Word c)) next
+in_first-other None = refl
+in_first-other (Some c) = go (nat_lt c 128) refl
+  where
+    go : (low : Bool) → nat_lt c 128 ≡ low → cond low (has_bit 0xF800000178000001FC00FFFFFFFFFFFF c) true ≡ cond low (not (in_listed L.Word c)) true
+    go true e = ascii_other c (grind (arith, nat_tests))
+    go false e = refl
+
 -- a table for each of what may stand before
 pub firsts_of : (t : Tree) (fs : Firsts) → AreFirst None t fs.unknown → AreFirst (Some true) t fs.word → AreFirst (Some false) t fs.other → AreFirsts t fs
 firsts_of t fs a b c None = a
@@ -95,3 +115,14 @@ module _ (behind : Option Bool) (next : Option ℕ) (parts : List Pattern) (n : 
       in_first new next ≡ may_start_any behind next (trees (map tree_of (drop (n - 1) parts))) rest
   unfolding may_start
   any_more old one new rest before here both = rw (parts_at parts n p low high is) (both ∙ rw (here, before) refl)
+
+-- what is looked for first of a row
+pub first_none : (word : Bool) (parts : List Pattern) → length parts ≡ 0 → true ≡ may_follow_first word (trees (map tree_of parts))
+unfolding may_follow
+first_none word [] none = refl
+first_none word (p ∷ ps) none = absurd (omega arith)
+
+pub first_some : (word : Bool) (parts : List Pattern) (p : Pattern) → (length parts ≡ 0 → ⊥) → p ≡ get_or parts 0 p → may_follow word (tree_of p) ≡ may_follow_first word (trees (map tree_of parts))
+unfolding may_follow
+first_some word [] p some is = absurd (some refl)
+first_some word (q ∷ ps) p some is = ap (λ (x : Pattern). may_follow word (tree_of x)) is

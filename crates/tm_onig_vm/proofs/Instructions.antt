@@ -16,14 +16,14 @@ use Rattle.tm_onig_search.proofs.Reading.{begins_within}
 use Rattle.tm_onig_search.proofs.Ends.{EndsFrom, accept_ends, tree_ends}
 use Rattle.tm_onig_search.proofs.Hits.{cond_hit, fail_hit}
 use Rattle.tm_onig_search.proofs.Within.{behind_hit}
-use Rattle.tm_onig_vm.specs.Near.{near}
+use Rattle.tm_onig_vm.specs.inner.Near.{near}
 use Rattle.tm_onig_vm.specs.declared.singles.Single.{Single}
-use Rattle.tm_onig_vm.specs.Single.{single_tree, single_has, fits, run_of, most_of}
+use Rattle.tm_onig_vm.specs.inner.Single.{single_tree, single_has, fits, run_of, most_of}
 use Rattle.tm_onig_vm.proofs.Behind.{tried, back_some, back_none}
 use Rattle.tm_onig_vm.proofs.Costs.{cost_same, tick-spend}
 use Rattle.tm_onig_vm.proofs.Rounds.{passes_within, run_within, single_searches, single_least, single_greatest, span_is}
-use Rattle.tm_onig_vm.specs.Code.{Code, RowCode, AnyCode}
-use Rattle.tm_onig_vm.specs.Machine.{Frame, Do, CloseOf, AgainOf, ArriveOf, Thread, at_pc, Goes, Stands, turn_of, from_each, span_of, peek_of, cost_behind, behind_of, goes_if, read_of, exec, frames_rest, Means, AllMean, WaitsFor, ActsFor, resumed}
+use Rattle.tm_onig_vm.specs.inner.Code.{Code, RowCode, AnyCode}
+use Rattle.tm_onig_vm.specs.inner.Machine.{Frame, Do, CloseOf, AgainOf, ArriveOf, Thread, at_pc, Goes, Stands, turn_of, from_each, span_of, peek_of, cost_behind, behind_of, goes_if, read_of, exec, frames_rest, Means, AllMean, WaitsFor, ActsFor, resumed}
 
 -- a body that has to end at a position ends there
 at_ends : (s : Subject) (q start : ℕ) → EndsFrom s start (at_goal q accept) start
@@ -179,6 +179,19 @@ module _ (s : Subject) (code : List Instr) where
       let left = turn_left t first last least greatest greedy next count fs numbers pos caps body back stands fits in
       (left.0, left.1, ap tick left.2 ∙ spend_two left.0)
 
+  -- behind one character
+  one_left_behind : (x : Single) (next : ℕ) (fs : List Frame) (numbers : List ℕ) (pos : ℕ) (caps : Caps) → Stands code fs next → pos ≤ length s.line →
+      ActsFor s code (exec s (I.One x next) numbers pos caps) pos caps (search_tree s (single_tree x) (frames_rest s fs numbers) pos caps)
+  unfolding exec
+  one_left_behind x next fs numbers pos caps stands fits =
+      subst (ActsFor s code (goes_if (passes (single_has x) (slice_get s.line pos)) (at_pc next numbers (pos + 1) caps)) pos caps) (sym (single_searches s x (frames_rest s fs numbers) pos caps))
+      (test_left (passes (single_has x) (slice_get s.line pos)) fs next numbers pos (pos + 1) caps caps stands (λ is_so. passes_within s.line (single_has x) pos is_so))
+
+  leaf_left : (t : Tree) (x : Single) (next : ℕ) (fs : List Frame) (numbers : List ℕ) (pos : ℕ) (caps : Caps) → t ≡ single_tree x → Stands code fs next → pos ≤ length s.line →
+      ActsFor s code (exec s (I.One x next) numbers pos caps) pos caps (search_tree s t (frames_rest s fs numbers) pos caps)
+  leaf_left t x next fs numbers pos caps is stands fits =
+      subst (λ (u : Tree). ActsFor s code (exec s (I.One x next) numbers pos caps) pos caps (search_tree s u (frames_rest s fs numbers) pos caps)) (sym is) (one_left_behind x next fs numbers pos caps stands fits)
+
   -- a greedy loop over one character
   span_left : (x : Single) (least : ℕ) (greatest : Option ℕ) (next : ℕ) (fs : List Frame) (numbers : List ℕ) (pos : ℕ) (caps : Caps) → fits least greatest ≡ true → Stands code fs next → pos ≤ length s.line →
       ActsFor s code (span_of (run_of (single_has x) (most_of greatest s.line) (drop pos s.line)) least greatest next numbers pos caps) pos caps
@@ -215,7 +228,7 @@ module _ (s : Subject) (code : List Instr) where
       go false = look_left negative false 1 0 fs next numbers pos caps caps stands fits
 
   -- a look-behind at one character
-  back_one : (x : Single) (pos : ℕ) (caps : Caps) →
+  pub back_one : (x : Single) (pos : ℕ) (caps : Caps) →
       look_back (λ q. search_tree s (single_tree x) (at_goal pos accept) q caps) (least_width (single_tree x)) (greatest_width (single_tree x)) pos
       ≡ record { hit = if passes (single_has x) (before s.line pos) then Some (record { end = pos; caps = caps }) else None; cost = cost_behind pos (passes (single_has x) (before s.line pos)) - 1 }
   unfolding nearest
@@ -274,11 +287,11 @@ module _ (s : Subject) (code : List Instr) where
   step (Do Empty ∷ fs) pc numbers pos caps small stands fits =
       (I.Step stands.0, stands.1, (frames_rest s fs numbers pos caps, one_left fs stands.0 numbers pos caps stands.2 fits, tick-spend (frames_rest s fs numbers pos caps)))
   step (Do (Char c fold) ∷ fs) pc numbers pos caps small stands fits =
-      (I.Char c fold stands.0, stands.1, test_left (passes (matches fold c) (slice_get s.line pos)) fs stands.0 numbers pos (pos + 1) caps caps stands.2 (λ is_so. passes_within s.line (matches fold c) pos is_so))
+      (I.One stands.1.0 stands.0, stands.1.2, leaf_left (Char c fold) stands.1.0 stands.0 fs numbers pos caps stands.1.1 stands.2 fits)
   step (Do (Any newline) ∷ fs) pc numbers pos caps small stands fits =
-      (I.Any newline stands.0, stands.1, test_left (passes (is_any newline) (slice_get s.line pos)) fs stands.0 numbers pos (pos + 1) caps caps stands.2 (λ is_so. passes_within s.line (is_any newline) pos is_so))
+      (I.One stands.1.0 stands.0, stands.1.2, leaf_left (Any newline) stands.1.0 stands.0 fs numbers pos caps stands.1.1 stands.2 fits)
   step (Do (InSet set fold) ∷ fs) pc numbers pos caps small stands fits =
-      (I.Member set fold stands.0, stands.1, test_left (passes (in_set set fold) (slice_get s.line pos)) fs stands.0 numbers pos (pos + 1) caps caps stands.2 (λ is_so. passes_within s.line (in_set set fold) pos is_so))
+      (I.One stands.1.0 stands.0, stands.1.2, leaf_left (InSet set fold) stands.1.0 stands.0 fs numbers pos caps stands.1.1 stands.2 fits)
   step (Do (Cat ts) ∷ fs) pc numbers pos caps small stands fits =
       let first = stands.1.0 in (
         I.Step first,

@@ -14,3 +14,4 @@ pub mod Turns
 pub mod Firsts
 pub mod Known
 pub mod Ascii
+pub mod Follows

@@ -12,7 +12,7 @@ use Rattle.tm_onig_search.proofs.Outcomes.{or_else_assoc, or_else-fail_left, or_
 use Rattle.tm_onig_vm.specs.declared.singles.Single.{Single}
 use Rattle.tm_onig_vm.specs.declared.singles.Single.TheVariants as S
 use Rattle.tm_onig_search.specs.Widths.{least_width, greatest_width}
-use Rattle.tm_onig_vm.specs.Single.{is_single, is_span, single_tree, single_has, fits, run_of, most_of}
+use Rattle.tm_onig_vm.specs.inner.Single.{is_single, is_span, single_tree, single_has, fits, run_of, most_of}
 use Rattle.tm_onig_vm.proofs.Behind.{tried}
 use Rattle.tm_onig_vm.proofs.Costs.{or_else-spend, tick-spend}
 

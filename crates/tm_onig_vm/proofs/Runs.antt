@@ -5,7 +5,7 @@ use Rattle.tm_onig_search.specs.Outcomes.{Caps, Hit, Outcome, fail, spend, or_el
 use Rattle.tm_onig_search.specs.Places.{Subject}
 use Rattle.tm_onig_search.proofs.Outcomes.{or_else_assoc, or_else-fail_left, or_else-fail_right, spend-spend}
 use Rattle.tm_onig_vm.specs.declared.code.Instr.{Instr}
-use Rattle.tm_onig_vm.specs.Machine.{Thread, Did, Succeeds, Goes, Waits, at_pc, exec, frames_rest, AllMean, WaitsFor, ActsFor, resumed, resumed_threads}
+use Rattle.tm_onig_vm.specs.inner.Machine.{Thread, Did, Succeeds, Goes, Waits, at_pc, exec, frames_rest, AllMean, WaitsFor, ActsFor, resumed, resumed_threads}
 use Rattle.tm_onig_vm.proofs.Costs.{cost_same, or_else-spend, tick-spend}
 use Rattle.tm_onig_vm.proofs.Instructions.{step}
 

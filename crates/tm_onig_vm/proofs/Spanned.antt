@@ -5,15 +5,15 @@ use Rattle.tm_onig_search.specs.Outcomes.{Caps}
 use Rattle.std.proofs.lemmas.Bool.Decides.{nat_tests}
 use Rattle.tm_onig_search.specs.Places.{Subject, passes}
 use Rattle.tm_onig_search.specs.Search.{is_at}
-use Rattle.tm_onig_vm.specs.Single.{single_has}
+use Rattle.tm_onig_vm.specs.inner.Single.{single_has}
 use Rattle.tm_onig_vm.specs.declared.singles.Single.{Single}
 use Rattle.tm_onig_vm.specs.declared.code.Instr.TheVariants as I
 use Rattle.tm_onig_vm.specs.declared.machine.Acted.{Acted}
 use Rattle.tm_onig_vm.specs.declared.trail.Way.{Way}
 use Rattle.tm_onig_vm.specs.declared.trail.Trail.{Trail}
 use Rattle.tm_onig_vm.specs.declared.machine.Acted.TheVariants as A
-use Rattle.tm_onig_vm.specs.Machine.{Thread as Plain, at_pc, from_each, Did, span_of, goes_for, peek_of, exec}
-use Rattle.tm_onig_vm.specs.Threads.{plains, numbers_of, Does, Acts}
+use Rattle.tm_onig_vm.specs.inner.Machine.{Thread as Plain, at_pc, from_each, Did, span_of, goes_for, peek_of, exec}
+use Rattle.tm_onig_vm.specs.inner.Threads.{plains, numbers_of, Does, Acts}
 use Rattle.tm_onig_vm.proofs.Stacked.{each_first, each_none}
 
 module _ (s : Subject) (line : List ℕ) (one : Single) (ahead negative goes found : Bool) (cost next pos : ℕ) (trail : Trail) (caps : Caps) (acted : Acted)

@@ -5,12 +5,12 @@ use Rattle.std.proofs.lemmas.List.{append-nil, nil_from_length, reverse-append, 
 use Rattle.std.specs.List.{refill}
 use Rattle.tm_onig_search.specs.Outcomes.{Caps}
 use Rattle.tm_onig_search.specs.Search.{width_or}
-use Rattle.tm_onig_vm.specs.Machine.{Thread as Plain, at_pc, from_each, behind_of}
+use Rattle.tm_onig_vm.specs.inner.Machine.{Thread as Plain, at_pc, from_each, behind_of}
 use Rattle.tm_onig_vm.specs.declared.trail.Way.{Way}
 use Rattle.tm_onig_vm.specs.declared.trail.Mark.{Mark}
 use Rattle.tm_onig_vm.specs.declared.trail.Mark.TheVariants as M
 use Rattle.tm_onig_vm.specs.declared.trail.Trail.{Trail}
-use Rattle.tm_onig_vm.specs.Threads.{plain, plains, ways, undone, numbers_of, groups_under}
+use Rattle.tm_onig_vm.specs.inner.Threads.{plain, plains, ways, undone, numbers_of, groups_under}
 
 pub reverse_push : {A : Type 0} (xs : List A) (x : A) → reverse (xs ++ x ∷ []) ≡ x ∷ reverse xs
 reverse_push xs x = reverse-append xs (x ∷ [])

@@ -1,5 +1,5 @@
 -- The run so far, over the machine's trail.
-use Rattle.std.proofs.Common.{◌≡◌, ℕ, ◌+◌, ◌<◌, ◌≤◌, List, [], ◌∷◌, ◌++◌, length, Option, Some, None, slice_get, refl, sym, ap, ap₂, ◌∙◌, arith}
+use Rattle.std.proofs.Common.{◌≡◌, ℕ, ◌+◌, ◌<◌, ◌≤◌, List, [], ◌∷◌, ◌++◌, length, take, drop, Option, Some, None, slice_get, refl, sym, ap, ap₂, ◌∙◌, subst, replicate, arith}
 use Rattle.std.specs.Prelude.{MatchOption}
 use Rattle.tm_onig_search.specs.Outcomes.{Caps, Outcome, fail, accept}
 use Rattle.tm_onig_search.specs.Places.{Subject}
@@ -8,13 +8,14 @@ use Rattle.tm_onig_vm.specs.declared.trail.Way.{Way}
 use Rattle.tm_onig_vm.specs.declared.trail.Trail.{Trail}
 use Rattle.tm_onig_vm.specs.declared.machine.Waiting.{Waiting}
 use Rattle.tm_onig_vm.specs.declared.machine.Acted.TheVariants as A
-use Rattle.tm_onig_vm.specs.Machine.{Thread as Plain, Did, Succeeds, Goes, Waits, Do, at_pc, AllMean, exec, resumed_threads}
-use Rattle.tm_onig_vm.specs.Threads.{plain, plains, numbers_of, groups_under, hit_at, now_threads, Does, Acts}
+use Rattle.tm_onig_vm.specs.inner.Machine.{Thread as Plain, Did, Succeeds, Goes, Waits, Do, at_pc, AllMean, exec, resumed_threads}
+use Rattle.tm_onig_vm.specs.inner.Threads.{plain, plains, numbers_of, groups_under, hit_at, now_threads, Does, Acts}
 use Rattle.tm_onig_class.specs.Tree.{Tree}
-use Rattle.tm_onig_search.specs.Find.{blank}
+use Rattle.tm_onig_search.specs.Find.{at_start, blank, last_group}
 use Rattle.tm_onig_search.specs.Search.{search_tree}
 use Rattle.tm_onig_search.proofs.Outcomes.{or_else-fail_right}
-use Rattle.tm_onig_vm.specs.Code.{IsCodeOf}
+use Rattle.tm_onig_vm.specs.inner.Code.{IsCodeOf}
+use Rattle.tm_onig_vm.proofs.Stacked.{began}
 use Rattle.tm_onig_vm.proofs.Runs as R
 use Rattle.tm_onig_vm.proofs.Runs.{Runs}
 
@@ -95,3 +96,19 @@ pub program_means : (s : Subject) (code : List Instr) (first : ℕ) (t : Tree) (
 program_means s code first t start caps threads is fits none begun =
     let o = search_tree s t accept start (blank t) in
     rw (begun, none) (o, fail, (Do t ∷ [], is, fits, refl), refl, sym (or_else-fail_right o))
+
+-- the way that an attempt at a start begins with
+pub attempt_means : (s : Subject) (code made : List Instr) (first groups start : ℕ) (t : Tree) (trail : Trail) (caps : Caps) → code ≡ made → IsCodeOf made first t → start ≤ length s.line → groups ≡ last_group t →
+    caps ≡ replicate (groups + 1) None → trail.marks.items ≡ [] → trail.numbers.items ≡ [] → AllMean s code (now_threads (Some (record { pc = first; pos = start })) trail caps) (at_start s t start)
+attempt_means s code made first groups start t trail caps same is fits many none marks numbers =
+    subst (λ (cs : List Instr). AllMean s cs (now_threads (Some (record { pc = first; pos = start })) trail caps) (at_start s t start)) (sym same)
+    (program_means s made first t start caps (now_threads (Some (record { pc = first; pos = start })) trail caps) is fits (none ∙ ap (λ (n : ℕ). replicate (n + 1) None) many)
+    (began trail (now_threads (Some (record { pc = first; pos = start })) trail caps) first start caps marks numbers refl))
+
+take_all : (ws ys : Caps) → take (length ws) (ws ++ ys) ≡ ws
+take_all [] ys = refl
+take_all (w ∷ ws) ys = ap (λ (cs : Caps). w ∷ cs) (take_all ws ys)
+
+-- groups that were lent, and came back as many
+pub refilled : (xs ws : Caps) → length ws ≡ length xs → take (length xs) (ws ++ drop (length ws) xs) ≡ ws
+refilled xs ws same = subst (λ (n : ℕ). take n (ws ++ drop (length ws) xs) ≡ ws) same (take_all ws (drop (length ws) xs))

@@ -1,8 +1,2 @@
-pub mod Anchors
-pub mod Near
-pub mod Size
-pub mod Single
-pub mod Code
-pub mod Machine
-pub mod Threads
 pub mod First
+pub mod inner

@@ -5,25 +5,23 @@
 //! a stack of numbers beside it. For `(a|b)*c`, last to first:
 //!
 //! ```text
-//! 0 Accept            5 Char b, then 3
-//! 1 Char c, then 0    6 Choice of 4, 5
+//! 0 Accept            5 One b, then 3
+//! 1 One c, then 0     6 Choice of 4, 5
 //! 2 Again 7, then 1   7 Open, then 6
 //! 3 Close 1, then 2   8 Loop 7, then 1
-//! 4 Char a, then 3    9 Step, then 8, where the search begins
+//! 4 One a, then 3     9 Step, then 8, where the search begins
 //! ```
 ghost use Rattle.std.specs.Prelude.{◌≡◌, ℕ, ◌+◌, [], ◌∷◌, ◌++◌, length, map, IfOk, slice_set};
 ghost use Rattle.tm_onig_class.specs.Tree.{tree_of, trees};
-ghost use Rattle.tm_onig_vm.specs.Code.{Code, AheadCode, BehindCode, RowCode, AnyCode, Grows, Adds, IsCodeOf};
-ghost use Rattle.tm_onig_vm.specs.Size.{code_size, code_sizes};
+ghost use Rattle.tm_onig_vm.specs.inner.Code.{Code, AheadCode, BehindCode, RowCode, AnyCode, Grows, Adds};
+ghost use Rattle.tm_onig_vm.specs.inner.Size.{code_size, code_sizes};
 
-use crate::copies::copy_set;
 use crate::singles::{Single, single_of, span_of};
 use crate::widths;
 use sqlite_items::Items;
 use std::alloc::Global;
 use tm_defs::memory::OutOfMemory;
 use tm_onig_class::patterns::{Pattern, Position};
-use tm_onig_class::sets::Set;
 
 /// One case of the search. `next` is the place where it goes on.
 #[derive(Drop)]
@@ -32,18 +30,9 @@ pub enum Instr {
     Hole,
     /// Success.
     Accept,
-    Char {
-        c: char,
-        fold: bool,
-        next: u32,
-    },
-    Any {
-        newline: bool,
-        next: u32,
-    },
-    Member {
-        set: Set,
-        fold: bool,
+    /// One character.
+    One {
+        one: Single,
         next: u32,
     },
     /// A greedy loop over one character.
@@ -121,7 +110,7 @@ pub enum Instr {
 }
 
 /// Adds an instruction at the end, and gives its place.
-fn push(code: &mut Vec<Instr>, instr: Instr) -> Result<u32, OutOfMemory>
+pub(crate) fn push(code: &mut Vec<Instr>, instr: Instr) -> Result<u32, OutOfMemory>
     ensures { IfOk result (λ pc. (code.new.items ≡ code.old.items ++ instr ∷ []) × (pc ≡ length code.old.items)) }
 {
     let Ok(pc) = u32::try_from(code.len()) else {
@@ -143,7 +132,7 @@ fn patch(code: &mut Vec<Instr>, at: u32, instr: Instr)
 
 /// Adds the code of the pattern, which goes on at `next`, and gives the place where it begins.
 #[cycle(emit)]
-fn emit(
+pub(crate) fn emit(
     alloc: Global,
     code: &mut Vec<Instr>,
     pattern: &Pattern,
@@ -151,34 +140,14 @@ fn emit(
 ) -> Result<u32, OutOfMemory>
     ensures { IfOk result (λ pc. Grows code.old.items code.new.items × Code code.new.items (tree_of pattern.now) pc next × Adds code.old.items code.new.items (code_size (tree_of pattern.now))) }
 {
+    if let Some(one) = single_of(pattern)? {
+        return push(code, Instr::One { one, next });
+    }
     match pattern {
+        Pattern::Char { .. } => unreachable!(),
+        Pattern::Any { .. } => unreachable!(),
+        Pattern::Set { .. } => unreachable!(),
         Pattern::Empty => push(code, Instr::Step { next }),
-        Pattern::Char { c, fold } => push(
-            code,
-            Instr::Char {
-                c: *c,
-                fold: *fold,
-                next,
-            },
-        ),
-        Pattern::Any { newline } => push(
-            code,
-            Instr::Any {
-                newline: *newline,
-                next,
-            },
-        ),
-        Pattern::Set { set, fold } => {
-            let own = copy_set(set)?;
-            push(
-                code,
-                Instr::Member {
-                    set: own,
-                    fold: *fold,
-                    next,
-                },
-            )
-        }
         Pattern::Cat(parts) => {
             let first = emit_row(alloc, code, parts.as_slice(), next)?;
             push(code, Instr::Step { next: first })
@@ -372,15 +341,4 @@ fn emit_any(
         targets.push(emit(alloc, code, &parts[i], next)?)?;
     }
     Ok(targets)
-}
-
-/// The code of a pattern, and the place where it begins.
-pub(crate) fn code_of(alloc: Global, pattern: &Pattern) -> Result<(Vec<Instr>, u32), OutOfMemory>
-    ensures code { IfOk result (λ made. IsCodeOf made.0.items made.1 (tree_of pattern.now)) }
-    ensures size { IfOk result (λ made. length made.0.items ≡ code_size (tree_of pattern.now) + 1) }
-{
-    let mut code = Vec::new(alloc);
-    let last = push(&mut code, Instr::Accept)?;
-    let first = emit(alloc, &mut code, pattern, last)?;
-    Ok((code, first))
 }

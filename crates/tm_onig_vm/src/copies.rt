@@ -6,13 +6,6 @@ use sqlite_items::Items;
 use std::alloc::Global;
 use tm_defs::memory::OutOfMemory;
 use tm_onig_class::patterns::Pattern;
-use tm_onig_class::sets::Set;
-
-pub(crate) fn copy_set(set: &Set) -> Result<Set, OutOfMemory>
-    ensures { IfOk result (λ copy. copy ≡ set.now) }
-{
-    set.copy()
-}
 
 /// An equal pattern.
 #[cycle(copy)]
@@ -25,7 +18,7 @@ pub(crate) fn copy(alloc: Global, pattern: &Pattern) -> Result<Pattern, OutOfMem
         Pattern::Char { c, fold } => Ok(Pattern::Char { c: *c, fold: *fold }),
         Pattern::Any { newline } => Ok(Pattern::Any { newline: *newline }),
         Pattern::Set { set, fold } => Ok(Pattern::Set {
-            set: copy_set(set)?,
+            set: set.copy()?,
             fold: *fold,
         }),
         Pattern::Cat(parts) => Ok(Pattern::Cat(copy_all(alloc, parts.as_slice())?)),

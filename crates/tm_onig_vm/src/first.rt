@@ -2,17 +2,18 @@
 //! all other characters and for the text's end.
 //!
 //! What stands before the start counts too: behind a character that is no line break `^`, `\A` and `\G` fail,
-//! and `\b` wants a word's character on exactly one side. So there is a table for each of three cases.
-ghost use Rattle.std.specs.Prelude.{◌≡◌, ℕ, ◌<◌, ◌||◌, ◌&&◌, not, ◌==◌, Bool, true, false, Option, map, IsFalse, nat_lt, ⊤};
+//! `\b` wants a word's character on exactly one side, and a pattern that begins with `(?<=\.)` starts behind no
+//! word's character. So there is a table for each of three cases.
+ghost use Rattle.std.specs.Prelude.{◌≡◌, ℕ, ◌<◌, ◌||◌, ◌&&◌, not, ◌==◌, Bool, true, false, Option, Some, map, IsFalse, nat_lt, ⊤, if◌then◌else◌};
 ghost use Rattle.tm_onig_class.specs.Ascii.{has_bit};
 ghost use Rattle.tm_onig_class.specs.declared.listed.Listed.TheVariants as L;
 ghost use Rattle.tm_onig_class.specs.Listed.{in_listed};
 ghost use Rattle.tm_onig_class.specs.Tree.{Tree, tree_of, trees};
 ghost use Rattle.tm_onig_search.specs.Starts.{may_pass, may_hold, may_start, may_start_row, may_start_any};
-ghost use Rattle.tm_onig_vm.specs.First.{in_first, in_class, first_behind, AreFirst, AreFirsts, leaf_test};
+ghost use Rattle.tm_onig_vm.specs.First.{in_first, in_class, first_behind, may_be, may_follow, AreFirst, AreFirsts, leaf_test};
 
 use crate::places::{has_any, has_char, has_member};
-use tm_onig_class::listed;
+use crate::words::{ASCII_OTHER, ASCII_WORD, is_word};
 use tm_onig_class::patterns::{Pattern, Position};
 
 /// Characters: those of ASCII as bits, all others, and the text's end.
@@ -62,23 +63,22 @@ fn with_bit(table: u128, code: u32, is: bool) -> u128
     if is { table | (1 << code) } else { table }
 }
 
-fn every() -> First
-    ensures { (next : Option ℕ) → in_first result next ≡ true }
+/// All, or none.
+fn all(are: bool) -> First
+    ensures { (next : Option ℕ) → in_first result next ≡ are }
 {
-    First {
-        ascii: u128::MAX,
-        beyond: true,
-        end: true,
-    }
-}
-
-fn nothing() -> First
-    ensures { (next : Option ℕ) → in_first result next ≡ false }
-{
-    First {
-        ascii: 0,
-        beyond: false,
-        end: false,
+    if are {
+        First {
+            ascii: u128::MAX,
+            beyond: true,
+            end: true,
+        }
+    } else {
+        First {
+            ascii: 0,
+            beyond: false,
+            end: false,
+        }
     }
 }
 
@@ -130,53 +130,31 @@ fn leaf(pattern: &Pattern) -> First
     }
 }
 
-/// The characters of words.
-fn word() -> First
-    ensures { (next : Option ℕ) → in_first result next ≡ may_pass false (in_listed L.Word) next }
+/// The characters of words, or those that are none and the text's end.
+fn word(is: bool) -> First
+    ensures { (next : Option ℕ) → in_first result next ≡ (if is then may_pass false (in_listed L.Word) next else may_pass true (λ c. not (in_listed L.Word c)) next) }
 {
-    let mut ascii = 0;
-    for code in 0..128u8 {
-        ascii = with_bit(ascii, code as u32, listed::is_word(code as char));
-    }
-    First {
-        ascii,
-        beyond: true,
-        end: false,
+    if is {
+        First {
+            ascii: ASCII_WORD,
+            beyond: true,
+            end: false,
+        }
+    } else {
+        First {
+            ascii: ASCII_OTHER,
+            beyond: true,
+            end: true,
+        }
     }
 }
 
-/// The characters that are no word's, and the text's end.
-fn not_word() -> First
-    ensures { (next : Option ℕ) → in_first result next ≡ may_pass true (λ c. not (in_listed L.Word c)) next }
-{
-    let mut ascii = 0;
-    for code in 0..128u8 {
-        ascii = with_bit(ascii, code as u32, !listed::is_word(code as char));
-    }
-    First {
-        ascii,
-        beyond: true,
-        end: true,
-    }
-}
-
-/// A line break, and the text's end.
-fn line_end() -> First
-    ensures { (next : Option ℕ) → in_first result next ≡ may_pass true (λ c. c == 0x0A) next }
+/// The text's end, and a line break if it is to be one too.
+fn at_end(newline: bool) -> First
+    ensures { (next : Option ℕ) → in_first result next ≡ may_pass true (λ c. newline && (c == 0x0A)) next }
 {
     First {
-        ascii: with_bit(0, 10, true),
-        beyond: true,
-        end: true,
-    }
-}
-
-/// The text's end.
-fn text_end() -> First
-    ensures { (next : Option ℕ) → in_first result next ≡ may_pass true (λ c. false) next }
-{
-    First {
-        ascii: 0,
+        ascii: with_bit(0, 10, newline),
         beyond: true,
         end: true,
     }
@@ -187,30 +165,29 @@ fn place(behind: Option<bool>, place: Position) -> First
     ensures { (next : Option ℕ) → in_first result next ≡ may_hold behind place next }
 {
     match place {
-        Position::LineEnd => line_end(),
-        Position::BeforeFinal => line_end(),
-        Position::TextEnd => text_end(),
-        Position::LineStart => known(behind),
-        Position::TextStart => known(behind),
-        Position::SearchStart => known(behind),
+        Position::LineEnd => at_end(true),
+        Position::BeforeFinal => at_end(true),
+        Position::TextEnd => at_end(false),
+        Position::LineStart => match behind {
+            None => all(true),
+            Some(_) => all(false),
+        },
+        Position::TextStart => match behind {
+            None => all(true),
+            Some(_) => all(false),
+        },
+        Position::SearchStart => match behind {
+            None => all(true),
+            Some(_) => all(false),
+        },
         Position::Word => match behind {
-            None => every(),
-            Some(is) => if is { not_word() } else { word() },
+            None => all(true),
+            Some(is) => if is { word(false) } else { word(true) },
         },
         Position::NotWord => match behind {
-            None => every(),
-            Some(is) => if is { word() } else { not_word() },
+            None => all(true),
+            Some(is) => if is { word(true) } else { word(false) },
         },
-    }
-}
-
-/// Nothing behind a character that is known, and else everything.
-fn known(behind: Option<bool>) -> First
-    ensures { (next : Option ℕ) → in_first result next ≡ may_hold behind Position.LineStart next }
-{
-    match behind {
-        None => every(),
-        Some(_) => nothing(),
     }
 }
 
@@ -246,13 +223,13 @@ pub(crate) fn start(pattern: &Pattern, behind: Option<bool>, rest: First) -> Fir
                 if *negative {
                     rest
                 } else {
-                    both(start(body, behind, every()), rest)
+                    both(start(body, behind, all(true)), rest)
                 }
             } else {
                 rest
             }
         }
-        Pattern::Back { .. } => every(),
+        Pattern::Back { .. } => all(true),
         Pattern::Position(at) => both(place(behind, *at), rest),
     }
 }
@@ -272,11 +249,73 @@ fn start_row(parts: &[Pattern], behind: Option<bool>, rest: First) -> First
 fn start_any(parts: &[Pattern], behind: Option<bool>, rest: First) -> First
     ensures { (next : Option ℕ) → in_first result next ≡ may_start_any behind next (trees (map tree_of parts.now)) (in_first rest next) }
 {
-    let mut any = nothing();
+    let mut any = all(false);
     for i in (0..parts.len()).rev() {
         any = either(start(&parts[i], behind, rest), any);
     }
     any
+}
+
+/// Whether a word's character, or one that is none, may be one that the pattern passes.
+fn may_be(pattern: &Pattern, word: bool) -> bool
+    ensures { result ≡ may_be word (tree_of pattern.now) }
+{
+    match pattern {
+        Pattern::Char { c, fold } => *fold || is_word(*c) == word,
+        _ => true,
+    }
+}
+
+/// Whether a match of the pattern may start behind such a character.
+#[cycle(follows)]
+#[tactic(auto, using(tm_onig_class::proofs::Trees::nodes), unfolding(crate::specs::First::may_follow))]
+fn follows(pattern: &Pattern, word: bool) -> bool
+    ensures { result ≡ may_follow word (tree_of pattern.now) }
+{
+    match pattern {
+        Pattern::Empty => true,
+        Pattern::Char { .. } => true,
+        Pattern::Any { .. } => true,
+        Pattern::Set { .. } => true,
+        Pattern::Cat(parts) => {
+            let parts = parts.as_slice();
+            if parts.len() == 0 {
+                true
+            } else {
+                follows(&parts[0], word)
+            }
+        }
+        Pattern::Alt(_) => true,
+        Pattern::Group { body, .. } => follows(body, word),
+        Pattern::Atomic(body) => follows(body, word),
+        Pattern::Repeat { .. } => true,
+        Pattern::Look {
+            body,
+            ahead,
+            negative,
+        } => {
+            if *ahead {
+                true
+            } else if *negative {
+                true
+            } else {
+                may_be(body, word)
+            }
+        }
+        Pattern::Back { .. } => true,
+        Pattern::Position(_) => true,
+    }
+}
+
+/// What a match of the pattern may start before, behind a character that is known.
+fn start_behind(pattern: &Pattern, word: bool) -> First
+    ensures { (next : Option ℕ) → in_first result next ≡ (may_follow word (tree_of pattern.now) && may_start (Some word) next (tree_of pattern.now) true) }
+{
+    if follows(pattern, word) {
+        start(pattern, Some(word), all(true))
+    } else {
+        all(false)
+    }
 }
 
 /// What a match of the pattern may start before.
@@ -284,8 +323,8 @@ pub(crate) fn all_firsts(pattern: &Pattern) -> Firsts
     ensures { AreFirsts (tree_of pattern.now) result }
 {
     Firsts {
-        unknown: start(pattern, None, every()),
-        word: start(pattern, Some(true), every()),
-        other: start(pattern, Some(false), every()),
+        unknown: start(pattern, None, all(true)),
+        word: start_behind(pattern, true),
+        other: start_behind(pattern, false),
     }
 }

@@ -1,18 +1,18 @@
 //! What the machine does at one instruction.
 //!
 //! Each function carries out one kind of instruction for the way that was on top, and says so in the
-//! words of `specs/Machine.antt`.
-ghost use Rattle.std.specs.Prelude.{◌≡◌, ℕ, ◌-◌, ◌+◌, ◌^◌, ◌<◌, ◌≤◌, ◌==◌, Option, List, [], ◌∷◌, ◌++◌, length, map, reverse, slice_get, slice_set, option_map, min, nat_lt, not, Some, OnOk, IfOk, IsErrOf, if◌then◌else◌};
+//! words of `specs/inner/Machine.antt`.
+ghost use Rattle.std.specs.Prelude.{◌≡◌, ℕ, ◌-◌, ◌+◌, ◌^◌, ◌<◌, ◌≤◌, ◌==◌, Option, List, [], ◌∷◌, ◌++◌, length, map, reverse, slice_get, slice_set, option_map, min, max, nat_lt, not, Some, OnOk, IfOk, IsErrOf, if◌then◌else◌};
 ghost use Rattle.std.specs.Option.{option_copied};
 ghost use Rattle.tm_onig_search.specs.Places.{Subject, passes, matches, in_set, is_any, holds};
 ghost use Rattle.tm_onig_search.specs.Search.{is_at, last_set, width_or};
-ghost use Rattle.tm_onig_vm.specs.Anchors.{subject_of};
-ghost use Rattle.tm_onig_vm.specs.Machine.{at_pc, turn_of, behind_of, goes_for, goes_if, read_of, exec};
-ghost use Rattle.tm_onig_vm.specs.Threads.{plain, plains, numbers_of, groups_under, Does, Acts};
+ghost use Rattle.tm_onig_vm.specs.inner.Anchors.{subject_of};
+ghost use Rattle.tm_onig_vm.specs.inner.Machine.{at_pc, turn_of, behind_of, goes_for, read_of, exec};
+ghost use Rattle.tm_onig_vm.specs.inner.Threads.{plain, plains, numbers_of, groups_under, Does, Acts};
 
 use crate::code::Instr;
 use crate::groups::{group_at, last_set, set_group};
-use crate::places::{has_any, has_char, has_member, is_at_place, stands_at, text_of};
+use crate::places::{is_at_place, stands_at, text_of};
 use crate::singles::{Single, run_length, stands};
 use crate::starts::Anchors;
 use crate::trail::{
@@ -55,13 +55,6 @@ fn step_for(cost: u64, test: bool, next: u32, at: usize) -> Acted
     }
 }
 
-/// Goes on where the test holds.
-fn step_if(test: bool, next: u32, at: usize) -> Acted
-    ensures does { (trail : Trail) (pos : ℕ) (caps : List (Option (ℕ × ℕ))) → Does (goes_if test (at_pc next (numbers_of trail) at caps)) result pos trail caps trail caps }
-{
-    step_for(1, test, next, at)
-}
-
 /// Whether the search goes on behind a look whose body was found or not.
 fn goes_on(negative: bool, found: bool) -> bool
     ensures { result ≡ (if negative then not found else found) }
@@ -69,20 +62,12 @@ fn goes_on(negative: bool, found: bool) -> bool
     if negative { !found } else { found }
 }
 
-/// The cases of a look ahead at one character.
-fn cost_ahead(found: bool) -> u64
-    ensures is { result ≡ (if found then 3 else 2) }
-    ensures some { 0 < result }
+/// The cases that were entered, by how a test went.
+fn cost_of(is: bool, yes: u64, no: u64) -> u64
+    ensures is { result ≡ (if is then yes else no) }
+    ensures between { (min yes no ≤ result) × (result ≤ max yes no) }
 {
-    if found { 3 } else { 2 }
-}
-
-/// The cases of a look-behind at one character, where there is one.
-fn cost_back(found: bool) -> u64
-    ensures is { result ≡ (if found then 4 else 2) }
-    ensures some { 0 < result }
-{
-    if found { 4 } else { 2 }
+    if is { yes } else { no }
 }
 
 /// Looks at the next character, or at the one before.
@@ -99,21 +84,13 @@ fn peek_act(
 {
     if ahead {
         let found = stands(line, pos, one);
-        return step_for(cost_ahead(found), goes_on(negative, found), next, pos);
+        return step_for(cost_of(found, 3, 2), goes_on(negative, found), next, pos);
     }
     if pos == 0 {
         return step_for(1, goes_on(negative, false), next, pos);
     }
     let found = stands(line, pos - 1, one);
-    step_for(cost_back(found), goes_on(negative, found), next, pos)
-}
-
-/// The one case more where another round might have been made.
-fn cost_of_end(count: u32, greatest: Option<u32>) -> u64
-    ensures is { result ≡ (if is_at count greatest then 0 else 1) }
-    ensures few { result ≤ 1 }
-{
-    if reaches(count, greatest) { 0 } else { 1 }
+    step_for(cost_of(found, 4, 2), goes_on(negative, found), next, pos)
 }
 
 /// Makes all rounds of a greedy loop over one character, and goes on behind the last of them.
@@ -133,7 +110,8 @@ fn span_act(
     ensures kept { OnOk result ((caps : List (Option (ℕ × ℕ))) → groups_under trail.new caps ≡ groups_under trail.old caps) }
 {
     let count = run_length(line, pos, one, greatest);
-    let cost = 1 + 3 * count as u64 + cost_of_end(count as u32, greatest);
+    let last = cost_of(reaches(count as u32, greatest), 0, 1);
+    let cost = 1 + 3 * count as u64 + last;
     let least = least as usize;
     if count < least {
         return Ok(Acted::Costs(cost));
@@ -161,13 +139,13 @@ fn read_act(line: &[char], group: Option<(u32, u32)>, fold: bool, next: u32, pos
             let text = text_of(line, group.0, group.1);
             let test = stands_at(line, pos, text, fold);
             let at = pos + text.len();
-            step_if(test, next, at)
+            step_for(1, test, next, at)
         }
     }
 }
 
 /// Sets a group, if there is one of this number.
-#[tactic(auto, unfolding(crate::specs::Machine::exec))]
+#[tactic(auto, unfolding(crate::specs::inner::Machine::exec))]
 fn close_act(
     number: u32,
     next: u32,
@@ -190,7 +168,7 @@ fn close_act(
     }
 }
 
-#[tactic(auto, unfolding(crate::specs::Machine::exec))]
+#[tactic(auto, unfolding(crate::specs::inner::Machine::exec))]
 fn again_act(
     body: u32,
     least: u32,
@@ -217,7 +195,7 @@ fn again_act(
     Ok(Acted::Goes(2, way))
 }
 
-#[tactic(auto, unfolding(crate::specs::Machine::exec))]
+#[tactic(auto, unfolding(crate::specs::inner::Machine::exec))]
 fn arrive_act(next: u32, pos: usize, trail: &mut Trail) -> Result<Acted, OutOfMemory>
     ensures does { (s : Subject) (caps : List (Option (ℕ × ℕ))) → IfOk result (λ acted. Acts s (Instr.Arrive next) pos trail.old caps trail.new caps acted) }
     ensures kept { OnOk result ((caps : List (Option (ℕ × ℕ))) → groups_under trail.new caps ≡ groups_under trail.old caps) }
@@ -232,7 +210,7 @@ fn arrive_act(next: u32, pos: usize, trail: &mut Trail) -> Result<Acted, OutOfMe
 }
 
 /// Carries out the instruction at the position.
-#[tactic(auto, unfolding(crate::specs::Machine::exec))]
+#[tactic(auto, unfolding(crate::specs::inner::Machine::exec))]
 pub(crate) fn act(
     alloc: Global,
     line: &[char],
@@ -250,17 +228,9 @@ pub(crate) fn act(
     match instr {
         Instr::Hole => Ok(Acted::Costs(1)),
         Instr::Accept => Ok(Acted::Succeeds(pos)),
-        Instr::Char { c, fold, next } => {
-            let test = has_char(line, pos, *c, *fold);
-            Ok(step_if(test, *next, pos + 1))
-        }
-        Instr::Any { newline, next } => {
-            let test = has_any(line, pos, *newline);
-            Ok(step_if(test, *next, pos + 1))
-        }
-        Instr::Member { set, fold, next } => {
-            let test = has_member(line, pos, set, *fold);
-            Ok(step_if(test, *next, pos + 1))
+        Instr::One { one, next } => {
+            let test = stands(line, pos, one);
+            Ok(step_for(1, test, *next, pos + 1))
         }
         Instr::Span {
             one,
@@ -307,7 +277,7 @@ pub(crate) fn act(
         }
         Instr::Place { place, next } => {
             let test = is_at_place(line, anchors, *place, pos);
-            Ok(step_if(test, *next, pos))
+            Ok(step_for(1, test, *next, pos))
         }
         Instr::Ahead {
             body,
@@ -341,10 +311,4 @@ pub(crate) fn act(
         }
         Instr::Arrive { next } => arrive_act(*next, pos, trail),
     }
-}
-
-pub(crate) fn instr_at(code: &[Instr], pc: u32) -> Option<&Instr>
-    ensures { option_copied result ≡ slice_get code.now pc }
-{
-    code.get(pc as usize)
 }

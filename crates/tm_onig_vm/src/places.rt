@@ -3,7 +3,7 @@ ghost use Rattle.std.specs.Prelude.{◌≡◌, ℕ, ◌≤◌, ◌<◌, ◌^◌,
 ghost use Rattle.tm_onig_class.specs.Members.{has_char};
 ghost use Rattle.tm_onig_class.specs.Folding.{has_alike};
 ghost use Rattle.tm_onig_search.specs.Places.{passes, matches, in_set, is_any, begins, before, after, is_break, is_word, at_word, holds};
-ghost use Rattle.tm_onig_vm.specs.Anchors.{subject_of};
+ghost use Rattle.tm_onig_vm.specs.inner.Anchors.{subject_of};
 
 use crate::starts::Anchors;
 use crate::words;

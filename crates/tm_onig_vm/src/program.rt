@@ -4,20 +4,20 @@
 //! that the machine carries out.
 ghost use Rattle.std.specs.Prelude.{◌≡◌, ℕ, ◌+◌, ◌^◌, ◌<◌, ◌≤◌, length, option_map, replicate, List, Option, [], None, OnOk, IfOk, IsErrOf, IsFalse};
 ghost use Rattle.tm_onig_class.specs.Tree.{tree_of};
-ghost use Rattle.tm_onig_search.specs.Find.{at_start, blank, with_whole, first_match, search_cost};
+ghost use Rattle.tm_onig_search.specs.Find.{at_start, with_whole, first_match, search_cost};
 ghost use Rattle.tm_onig_vm.specs.First.{NeverStarts, next_class};
-ghost use Rattle.tm_onig_vm.specs.Anchors.{subject_of};
-ghost use Rattle.tm_onig_vm.specs.Size.{code_size};
-ghost use Rattle.tm_onig_vm.specs.Threads.{groups_under, hit_at};
+ghost use Rattle.tm_onig_vm.specs.inner.Anchors.{subject_of};
+ghost use Rattle.tm_onig_vm.specs.inner.Size.{code_size};
+ghost use Rattle.tm_onig_vm.specs.inner.Threads.{hit_at};
 
-use crate::code::{Instr, code_of};
+use crate::code::{Instr, emit, push};
 use crate::copies::copy;
 use crate::fault::FindFault;
 use crate::first::{Firsts, admits, all_firsts, behind_of};
 use crate::groups::set_group;
-use crate::running::run;
+use crate::running::{Reads, run};
 use crate::starts::{Anchors, class_of, known_behind};
-use crate::trail::{Trail, blank_trail, go, undo_all};
+use crate::trail::{Trail, Way, blank_trail};
 use crate::widths::last_group;
 use smallvec::SmallVec;
 use std::alloc::Global;
@@ -42,7 +42,7 @@ impl Model for Prog {
     ghost use Rattle.tm_onig_class.specs.Tree.{tree_of};
     ghost use Rattle.tm_onig_class.specs.declared.patterns.Pattern.{Pattern};
     ghost use Rattle.tm_onig_class.specs.contracts.patterns.Pattern as e;
-    ghost use Rattle.tm_onig_vm.specs.Code.{IsProgramOf};
+    ghost use Rattle.tm_onig_vm.specs.inner.Code.{IsProgramOf};
 
     ghost Value = { Pattern };
 
@@ -57,7 +57,9 @@ impl Model for Prog {
 pub fn compile(alloc: Global, pattern: &Pattern) -> Result<Prog, OutOfMemory>
     ensures { IfOk result (λ prog. tree_of prog ≡ tree_of pattern.now) }
 {
-    let (code, first) = code_of(alloc, pattern)?;
+    let mut code = Vec::new(alloc);
+    let last = push(&mut code, Instr::Accept)?;
+    let first = emit(alloc, &mut code, pattern, last)?;
     let groups = last_group(pattern);
     let own = copy(alloc, pattern)?;
     Ok(Prog {
@@ -102,15 +104,6 @@ impl Room {
     }
 }
 
-/// Leaves nothing on the trail.
-fn clear(trail: &mut Trail)
-    ensures marks { trail.new.marks.items ≡ [] }
-    ensures numbers { trail.new.numbers.items ≡ [] }
-{
-    trail.marks.clear();
-    trail.numbers.clear();
-}
-
 /// Sets no group, of so many.
 fn reset(caps: &mut SmallVec<Option<(u32, u32)>, 8>, groups: usize) -> Result<(), OutOfMemory>
     ensures { OnOk result (caps.new.items ≡ replicate groups None) }
@@ -145,31 +138,6 @@ pub fn instructions(prog: &Prog) -> usize
     prog.code.len()
 }
 
-/// Where the first success of the program at one start ends, and its groups are set then. `trail` is the
-/// room of the search: what is left there of another start is undone first.
-fn attempt_from(
-    alloc: Global,
-    line: &[char],
-    anchors: Anchors,
-    prog: &Prog,
-    start: usize,
-    trail: &mut Trail,
-    caps: &mut [Option<(u32, u32)>],
-    budget: &mut u64,
-) -> Result<Option<usize>, FindFault>
-    requires small { length line.now < 2 ^ 31 }
-    requires within { start ≤ length line.now }
-    requires blank { groups_under trail.old caps.old ≡ blank (tree_of prog.now) }
-    ensures hit { IfOk result (λ found. option_map (hit_at caps.new) found ≡ (at_start (subject_of line.now anchors) (tree_of prog.now) start).hit) }
-    ensures over { IsErrOf result FindFault.Budget → budget.old < (at_start (subject_of line.now anchors) (tree_of prog.now) start).cost }
-    ensures falls { (budget.new ≤ budget.old) × (budget.old ≤ budget.new + (at_start (subject_of line.now anchors) (tree_of prog.now) start).cost) }
-    ensures kept { OnOk result (groups_under trail.new caps.new ≡ blank (tree_of prog.now)) }
-{
-    undo_all(trail, caps);
-    go(trail, prog.first, start)?;
-    run(alloc, line, anchors, &prog.code, trail, caps, budget)
-}
-
 /// The groups of the match that starts here, the whole match first, or none where the pattern matches at
 /// another start alone.
 pub fn attempt(
@@ -187,14 +155,22 @@ pub fn attempt(
     ensures over { IsErrOf result FindFault.Budget → budget.old < (at_start (subject_of line.now anchors) (tree_of prog.now) start).cost }
     ensures falls { (budget.new ≤ budget.old) × (budget.old ≤ budget.new + (at_start (subject_of line.now anchors) (tree_of prog.now) start).cost) }
 {
-    clear(&mut room.trail);
+    room.trail.marks.clear();
+    room.trail.numbers.clear();
     reset(&mut room.caps, prog.groups as usize + 1)?;
-    match attempt_from(
+    let reads = Reads {
         alloc,
         line,
         anchors,
-        prog,
-        start,
+        code: &prog.code,
+    };
+    let first = Some(Way {
+        pc: prog.first,
+        pos: start,
+    });
+    match run(
+        &reads,
+        first,
         &mut room.trail,
         room.caps.as_mut_slice(),
         budget,
@@ -206,31 +182,6 @@ pub fn attempt(
         }
         Err(fault) => Err(fault),
     }
-}
-
-/// As `attempt`, and passes over a start where no match may start.
-fn attempt_if(
-    alloc: Global,
-    prog: &Prog,
-    line: &Line,
-    anchors: Anchors,
-    start: usize,
-    room: &mut Room,
-    budget: &mut u64,
-) -> Result<Option<Caps>, FindFault>
-    requires small { length line.now < 2 ^ 31 }
-    requires within { start ≤ length line.now }
-    ensures hit { IfOk result (λ found. found ≡ option_map (with_whole start) (at_start (subject_of line.now anchors) (tree_of prog.now) start).hit) }
-    ensures over { IsErrOf result FindFault.Budget → budget.old < (at_start (subject_of line.now anchors) (tree_of prog.now) start).cost }
-    ensures falls { (budget.new ≤ budget.old) × (budget.old ≤ budget.new + (at_start (subject_of line.now anchors) (tree_of prog.now) start).cost) }
-{
-    let chars = line.as_slice();
-    let behind = known_behind(chars, anchors, start);
-    let next = class_of(chars.get(start).copied());
-    if !prog.may_start(behind, next) {
-        return Ok(None);
-    }
-    attempt(alloc, prog, chars, anchors, start, room, budget)
 }
 
 /// The groups of the match with the least start from `from` on, the whole match first, or none where
@@ -258,9 +209,15 @@ pub fn find(
         allow_a,
         allow_g,
     };
+    let chars = line.as_slice();
     let mut room = Room::new(alloc);
-    for start in from as usize..line.as_slice().len() + 1 {
-        match attempt_if(alloc, prog, line, anchors, start, &mut room, budget) {
+    for start in from as usize..chars.len() + 1 {
+        let behind = known_behind(chars, anchors, start);
+        let class = class_of(chars, start);
+        if !prog.may_start(behind, class) {
+            continue;
+        }
+        match attempt(alloc, prog, chars, anchors, start, &mut room, budget) {
             Ok(None) => {}
             Ok(Some(caps)) => return Ok(Some(caps)),
             Err(fault) => return Err(fault),

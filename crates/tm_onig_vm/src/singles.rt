@@ -4,9 +4,8 @@
 ghost use Rattle.std.specs.Prelude.{◌≡◌, ◌+◌, ◌≤◌, ◌<◌, ◌^◌, false, true, length, drop, slice_get, IfOk, MatchOption};
 ghost use Rattle.tm_onig_class.specs.Tree.{tree_of};
 ghost use Rattle.tm_onig_search.specs.Places.{passes};
-ghost use Rattle.tm_onig_vm.specs.Single.{is_single, is_span, single_tree, single_has, fits, run_of, most_of};
+ghost use Rattle.tm_onig_vm.specs.inner.Single.{is_single, is_span, single_tree, single_has, fits, run_of, most_of};
 
-use crate::copies::copy_set;
 use crate::places::{has_any, has_char, has_member};
 use tm_defs::memory::OutOfMemory;
 use tm_onig_class::patterns::Pattern;
@@ -29,7 +28,7 @@ pub(crate) fn single_of(pattern: &Pattern) -> Result<Option<Single>, OutOfMemory
         Pattern::Char { c, fold } => Ok(Some(Single::Char { c: *c, fold: *fold })),
         Pattern::Any { newline } => Ok(Some(Single::Any { newline: *newline })),
         Pattern::Set { set, fold } => Ok(Some(Single::Member {
-            set: copy_set(set)?,
+            set: set.copy()?,
             fold: *fold,
         })),
         _ => Ok(None),

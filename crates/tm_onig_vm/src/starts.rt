@@ -2,9 +2,9 @@
 //!
 //! Programs say by these alone whether a match may start (`program::Prog::may_start`), so that a caller can
 //! find it out once for each class.
-ghost use Rattle.std.specs.Prelude.{◌≡◌, ◌<◌};
+ghost use Rattle.std.specs.Prelude.{◌≡◌, ◌<◌, slice_get};
 ghost use Rattle.tm_onig_search.specs.Starts.{Sits};
-ghost use Rattle.tm_onig_vm.specs.Anchors.{subject_of};
+ghost use Rattle.tm_onig_vm.specs.inner.Anchors.{subject_of};
 ghost use Rattle.tm_onig_vm.specs.First.{next_class};
 
 use crate::words::is_word;
@@ -20,15 +20,15 @@ pub struct Anchors {
 /// How many classes of next characters there are.
 pub const CLASSES: u32 = 130;
 
-/// The class of the next character: its code in ASCII, 128 for any other, and 129 at the text's end.
-pub fn class_of(next: Option<char>) -> u32
-    ensures class { result ≡ next_class next }
+/// The class of the character at a start: its code in ASCII, 128 for any other, and 129 at the text's end.
+pub fn class_of(line: &[char], start: usize) -> u32
+    ensures class { result ≡ next_class (slice_get line.now start) }
     ensures few { result < 130 }
 {
-    match next {
+    match line.get(start) {
         None => 129,
         Some(c) => {
-            let code = c as u32;
+            let code = *c as u32;
             if code < 128 { code } else { 128 }
         }
     }

@@ -6,8 +6,8 @@
 //! way, and copies nothing.
 ghost use Rattle.std.specs.Prelude.{◌≡◌, ℕ, ◌-◌, ◌+◌, ◌^◌, ◌<◌, ◌≤◌, List, Option, [], ◌∷◌, ◌++◌, map, reverse, option_map, min, nat_lt, Some, slice_set, OnOk, IfOk, MatchOption, if◌then◌else◌};
 ghost use Rattle.tm_onig_search.specs.Search.{is_at, width_or};
-ghost use Rattle.tm_onig_vm.specs.Machine.{at_pc, from_each, turn_of, behind_of, resumed_threads};
-ghost use Rattle.tm_onig_vm.specs.Threads.{plain, plains, numbers_of, groups_under, hit_at};
+ghost use Rattle.tm_onig_vm.specs.inner.Machine.{at_pc, from_each, turn_of, behind_of, resumed_threads};
+ghost use Rattle.tm_onig_vm.specs.inner.Threads.{plain, plains, numbers_of, groups_under, hit_at};
 
 use crate::groups::{group_at, set_group};
 use std::alloc::Global;

@@ -5,7 +5,7 @@ ghost use Rattle.std.specs.Prelude.{◌≡◌, ℕ, ◌+◌, ◌*◌, ◌≤◌,
 ghost use Rattle.tm_onig_class.specs.Tree.{tree_of, trees};
 ghost use Rattle.tm_onig_search.specs.Widths.{least_width, widths_sum, widths_least, both_widths, width_times, greatest_width, greatest_sum, greatest_of};
 ghost use Rattle.tm_onig_search.specs.Find.{last_group, last_group_of};
-ghost use Rattle.tm_onig_vm.specs.Near.{near};
+ghost use Rattle.tm_onig_vm.specs.inner.Near.{near};
 
 use tm_onig_class::patterns::Pattern;
 

@@ -19,7 +19,7 @@ class_body-returns-in-Ok-class_set t c =
     let some = some_depth c.args.depth c.if-depth-eq0.false in
     let high = c.highest-height.ensures ∙ ap highest c.deref-in-Ok.ensures.value in
     let negated = c.sign-negated.result.0 in
-    let same = c.exact.ensures (class_has c.args.fold negated c.in-Ok.parts.items)
+    let same = c.prove_exact.ensures (class_has c.args.fold negated c.in-Ok.parts.items)
     (λ x is. c.in-Ok-class_set.ensures x is ∙ ap (λ ps. class_has c.args.fold negated ps x) c.deref.ensures.value) in
     body_goes c.args.depth c.args.fold negated c.args.text.now c.sign-negated.result.1.now _ _ _ _ some c.sign-negated.ensures.negated c.sign-negated.ensures.items c.in-Ok.ensures same high
 

@@ -3,27 +3,20 @@ use Rattle.std.proofs.lemmas.Result.{IfOk-weaker}
 use Rattle.tm_onig_class.specs.Tree.{Empty, Char, Any, InSet, Back, Holds, tree_of, trees}
 use Rattle.tm_onig_class.proofs.Trees.{tree_of-Empty, tree_of-Char, tree_of-Cat, tree_of-Any, tree_of-Set, tree_of-Atomic, tree_of-Look, tree_of-Back, tree_of-Position, tree_of-Alt, tree_of-Group, tree_of-Repeat}
 use Rattle.tm_onig_vm.specs.declared.code.Instr.TheVariants as I
-use Rattle.tm_onig_vm.specs.Code.{Code, Grows, Adds}
-use Rattle.tm_onig_vm.specs.Size.{code_size}
-use Rattle.tm_onig_vm.proofs.Emitted.{grows_refl, grows_trans, any_step, any_adds, row_step, row_adds, adds_push, leaf_done, span_done, peek_done, look_ahead_done, look_behind_done, cat_done, alt_done, group_done, repeat_done, ahead_done, behind_done, at_push, grows_push}
+use Rattle.tm_onig_vm.specs.inner.Code.{Code, Grows, Adds}
+use Rattle.tm_onig_vm.specs.inner.Size.{code_size}
+use Rattle.tm_onig_vm.proofs.Emitted.{grows_refl, grows_trans, any_step, any_adds, row_step, row_adds, adds_push, leaf_done, one_done, span_done, peek_done, look_ahead_done, look_behind_done, cat_done, alt_done, group_done, repeat_done, ahead_done, behind_done, at_push, grows_push}
 use Rattle.tm_onig_vm.proofs.code.+emit.Goals as goal
 
 pub emit-returns-in-Empty : goal.emit-returns-in-Empty
 emit-returns-in-Empty t c =
-    IfOk-weaker c.push.result
-    (λ pc. (c.push.new.code.items ≡ c.args.code.now.items ++ I.Step c.args.next ∷ []) × (pc ≡ length c.args.code.now.items))
-    (λ pc. Grows c.args.code.now.items c.push.new.code.items × Code c.push.new.code.items (tree_of c.args.pattern.now) pc c.args.next
-    × Adds c.args.code.now.items c.push.new.code.items (code_size (tree_of c.args.pattern.now)))
+    IfOk-weaker c.push-in-Empty.result
+    (λ pc. (c.push-in-Empty.new.code.items ≡ c.args.code.now.items ++ I.Step c.args.next ∷ []) × (pc ≡ length c.args.code.now.items))
+    (λ pc. Grows c.args.code.now.items c.push-in-Empty.new.code.items × Code c.push-in-Empty.new.code.items (tree_of c.args.pattern.now) pc c.args.next
+    × Adds c.args.code.now.items c.push-in-Empty.new.code.items (code_size (tree_of c.args.pattern.now)))
     (λ pc made. rw (c.in-Empty.is, tree_of-Empty)
-    (leaf_done c.args.code.now.items c.args.code.now.items c.push.new.code.items (I.Step c.args.next) pc c.args.next (grows_refl c.args.code.now.items) made.0 made.1 Empty (λ e. e) (omega arith) refl))
-    c.push.ensures
-
-pub emit-returns-in-Char : goal.emit-returns-in-Char
-emit-returns-in-Char t c =
-    IfOk-weaker c.push-in-Char.result _ _
-    (λ pc made. rw (c.in-Char.is, tree_of-Char c.in-Char.c c.in-Char.fold)
-    (leaf_done c.args.code.now.items c.args.code.now.items c.push-in-Char.new.code.items (I.Char c.in-Char.c c.in-Char.fold c.args.next) pc c.args.next (grows_refl c.args.code.now.items) made.0 made.1 (Char c.in-Char.c c.in-Char.fold) (λ e. e) (omega arith) refl))
-    c.push-in-Char.ensures
+    (leaf_done c.args.code.now.items c.args.code.now.items c.push-in-Empty.new.code.items (I.Step c.args.next) pc c.args.next (grows_refl c.args.code.now.items) made.0 made.1 Empty (λ e. e) (omega arith) refl))
+    c.push-in-Empty.ensures
 
 pub emit-returns-in_ok-first-in-Cat : goal.emit-returns-in_ok-first-in-Cat
 emit-returns-in_ok-first-in-Cat t c =
@@ -63,27 +56,36 @@ emit-returns-in_ok-first-in-Group t c =
 
 pub emit-returns-in-Some : goal.emit-returns-in-Some
 emit-returns-in-Some t c =
-    let known = rw c.in-Some.is at c.in_ok-one-in-Repeat.ensures in
-    let of = rw c.deref-in-Repeat.ensures at known.0 in
-    IfOk-weaker c.push-in-Some.result _ _
-    (λ pc made. rw (c.in-Repeat.is, tree_of-Repeat c.in-Repeat.body c.in-Repeat.least c.in-Repeat.greatest c.in-Repeat.greedy)
-    (span_done c.args.code.now.items c.args.code.now.items c.push-in-Some.new.code.items (I.Span c.in-Some.one c.in-Repeat.least c.in-Repeat.greatest c.args.next) pc c.args.next (grows_refl c.args.code.now.items) made.0 made.1
-    (tree_of c.in-Repeat.body.value) c.in-Repeat.least c.in-Repeat.greatest c.in-Repeat.greedy c.in-Some.one refl of known.1 known.2 (omega arith)))
-    c.push-in-Some.ensures
+    let of = rw c.in-Some.is at c.in_ok-one.ensures in
+    IfOk-weaker c.push.result _ _
+    (λ pc made.
+    one_done c.args.code.now.items c.args.code.now.items c.push.new.code.items (I.One c.in-Some.one c.args.next) pc c.args.next (grows_refl c.args.code.now.items) made.0 made.1
+    (tree_of c.args.pattern.now) c.in-Some.one refl of (omega arith))
+    c.push.ensures
 
 pub emit-returns-in-Some-2 : goal.emit-returns-in-Some-2
 emit-returns-in-Some-2 t c =
-    let known = rw c.in-Some-2.is at c.in_ok-one-in-Look.ensures in
-    let of = rw c.deref-in-Look.ensures at known in
+    let known = rw c.in-Some-2.is at c.in_ok-one-in-Repeat.ensures in
+    let of = rw c.deref-in-Repeat.ensures at known.0 in
     IfOk-weaker c.push-in-Some-2.result _ _
-    (λ pc made. rw (c.in-Look.is, tree_of-Look c.in-Look.body c.in-Look.ahead c.in-Look.negative)
-    (peek_done c.args.code.now.items c.args.code.now.items c.push-in-Some-2.new.code.items (I.Peek c.in-Some-2.one c.in-Look.ahead c.in-Look.negative c.args.next) pc c.args.next (grows_refl c.args.code.now.items) made.0 made.1
-    (tree_of c.in-Look.body.value) c.in-Look.ahead c.in-Look.negative c.in-Some-2.one refl of (omega arith)))
+    (λ pc made. rw (c.in-Repeat.is, tree_of-Repeat c.in-Repeat.body c.in-Repeat.least c.in-Repeat.greatest c.in-Repeat.greedy)
+    (span_done c.args.code.now.items c.args.code.now.items c.push-in-Some-2.new.code.items (I.Span c.in-Some-2.one c.in-Repeat.least c.in-Repeat.greatest c.args.next) pc c.args.next (grows_refl c.args.code.now.items) made.0 made.1
+    (tree_of c.in-Repeat.body.value) c.in-Repeat.least c.in-Repeat.greatest c.in-Repeat.greedy c.in-Some-2.one refl of known.1 known.2 (omega arith)))
     c.push-in-Some-2.ensures
+
+pub emit-returns-in-Some-3 : goal.emit-returns-in-Some-3
+emit-returns-in-Some-3 t c =
+    let known = rw c.in-Some-3.is at c.in_ok-one-in-Look.ensures in
+    let of = rw c.deref-in-Look.ensures at known in
+    IfOk-weaker c.push-in-Some-3.result _ _
+    (λ pc made. rw (c.in-Look.is, tree_of-Look c.in-Look.body c.in-Look.ahead c.in-Look.negative)
+    (peek_done c.args.code.now.items c.args.code.now.items c.push-in-Some-3.new.code.items (I.Peek c.in-Some-3.one c.in-Look.ahead c.in-Look.negative c.args.next) pc c.args.next (grows_refl c.args.code.now.items) made.0 made.1
+    (tree_of c.in-Look.body.value) c.in-Look.ahead c.in-Look.negative c.in-Some-3.one refl of (omega arith)))
+    c.push-in-Some-3.ensures
 
 pub emit-returns-in_ok-first-in-Repeat : goal.emit-returns-in_ok-first-in-Repeat
 emit-returns-in_ok-first-in-Repeat t c =
-    let round_by_round = rw (c.deref-in-Repeat.ensures, c.in_default.is) at c.in_ok-one-in-Repeat.ensures in
+    let round_by_round = rw (c.deref-in-Repeat.ensures, c.in_default-2.is) at c.in_ok-one-in-Repeat.ensures in
     let body = rw c.deref-in-Repeat-2.ensures at c.in_ok-first-in-Repeat.ensures.1 in
     let adds = rw c.deref-in-Repeat-2.ensures at c.in_ok-first-in-Repeat.ensures.2 in
     IfOk-weaker c.push-in-Repeat-2.result _ _
@@ -113,22 +115,6 @@ emit_row-loop-i-preserved t c =
           c.index-parts-i.is c.loop-i.invariant.size c.in_ok-pc.ensures.2;
     }
 
-pub emit-returns-in-Any : goal.emit-returns-in-Any
-emit-returns-in-Any t c =
-    IfOk-weaker c.push-in-Any.result _ _
-    (λ pc made. rw (c.in-Any.is, tree_of-Any c.in-Any.newline)
-    (leaf_done c.args.code.now.items c.args.code.now.items c.push-in-Any.new.code.items (I.Any c.in-Any.newline c.args.next) pc c.args.next (grows_refl c.args.code.now.items) made.0 made.1
-    (Any c.in-Any.newline) (λ e. e) (omega arith) refl))
-    c.push-in-Any.ensures
-
-pub emit-returns-in_ok-own-in-Set : goal.emit-returns-in_ok-own-in-Set
-emit-returns-in_ok-own-in-Set t c =
-    IfOk-weaker c.push-in-Set.result _ _
-    (λ pc made. rw (c.in-Set.is, tree_of-Set c.in-Set.set c.in-Set.fold, ← c.in_ok-own-in-Set.ensures)
-    (leaf_done c.args.code.now.items c.args.code.now.items c.push-in-Set.new.code.items (I.Member c.in_ok-own-in-Set.own c.in-Set.fold c.args.next) pc c.args.next
-    (grows_refl c.args.code.now.items) made.0 made.1 (InSet c.in_ok-own-in-Set.own c.in-Set.fold) (λ e. e) (omega arith) refl))
-    c.push-in-Set.ensures
-
 pub emit-returns-in_ok-own-in-Back : goal.emit-returns-in_ok-own-in-Back
 emit-returns-in_ok-own-in-Back t c =
     let same = c.from_vec-in-Back.ensures ∙ c.in_ok-own-in-Back.ensures.items ∙ c.as_slice-in-Back.ensures in
@@ -152,7 +138,7 @@ emit-returns-in-Atomic t c =
 
 pub emit-returns-then-ahead : goal.emit-returns-then-ahead
 emit-returns-then-ahead t c =
-    let long = rw (c.deref-in-Look.ensures, c.in_default-2.is) at c.in_ok-one-in-Look.ensures in
+    let long = rw (c.deref-in-Look.ensures, c.in_default-3.is) at c.in_ok-one-in-Look.ensures in
     IfOk-weaker c.emit_ahead-then-ahead.result _ _
     (λ pc made. rw (c.in-Look.is, tree_of-Look c.in-Look.body c.in-Look.ahead c.in-Look.negative, c.if-ahead.true)
     (look_ahead_done c.args.code.now.items c.emit_ahead-then-ahead.new.code.items (tree_of c.in-Look.body.value) c.in-Look.negative pc c.args.next long made))
@@ -160,7 +146,7 @@ emit-returns-then-ahead t c =
 
 pub emit-returns-else-ahead : goal.emit-returns-else-ahead
 emit-returns-else-ahead t c =
-    let long = rw (c.deref-in-Look.ensures, c.in_default-2.is) at c.in_ok-one-in-Look.ensures in
+    let long = rw (c.deref-in-Look.ensures, c.in_default-3.is) at c.in_ok-one-in-Look.ensures in
     IfOk-weaker c.emit_behind.result _ _
     (λ pc made. rw (c.in-Look.is, tree_of-Look c.in-Look.body c.in-Look.ahead c.in-Look.negative, c.if-ahead.false)
     (look_behind_done c.args.code.now.items c.emit_behind.new.code.items (tree_of c.in-Look.body.value) c.in-Look.negative pc c.args.next long made))

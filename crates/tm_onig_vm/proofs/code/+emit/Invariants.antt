@@ -1,7 +1,7 @@
 use Rattle.std.proofs.Common.{map, drop, take}
 use Rattle.tm_onig_class.specs.Tree.{tree_of, trees}
-use Rattle.tm_onig_vm.specs.Size.{code_sizes}
-use Rattle.tm_onig_vm.specs.Code.{RowCode, AnyCode, Grows, Adds}
+use Rattle.tm_onig_vm.specs.inner.Size.{code_sizes}
+use Rattle.tm_onig_vm.specs.inner.Code.{RowCode, AnyCode, Grows, Adds}
 use Rattle.tm_onig_vm.proofs.code.+emit.Given as goal
 
 abbrev pub invariant-emit_any-loop-i : goal.invariant-emit_any-loop-i

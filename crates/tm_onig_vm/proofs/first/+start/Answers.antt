@@ -4,7 +4,7 @@ use Rattle.tm_onig_vm.proofs.Firsts.{row_none, any_none, row_more, any_more}
 use Rattle.tm_onig_vm.proofs.first.+start.Goals as goal
 
 pub start_any-loop-i-init : goal.start_any-loop-i-init
-start_any-loop-i-init t c = λ next. c.nothing-any.ensures next ∙ any_none c.args.behind c.args.parts.now (in_first c.args.rest next) next
+start_any-loop-i-init t c = λ next. c.all-any.ensures next ∙ any_none c.args.behind c.args.parts.now (in_first c.args.rest next) next
 
 pub start_any-loop-i-preserved : goal.start_any-loop-i-preserved
 start_any-loop-i-preserved t c = λ next.

@@ -1,5 +1,5 @@
 use Rattle.std.proofs.Common.{refl, ◌∙◌, arith}
-use Rattle.tm_onig_vm.specs.Machine.{exec}
+use Rattle.tm_onig_vm.specs.inner.Machine.{exec}
 use Rattle.tm_onig_vm.proofs.Stacked.{began, none_kept}
 use Rattle.tm_onig_vm.proofs.machine.act.Goals as goal
 

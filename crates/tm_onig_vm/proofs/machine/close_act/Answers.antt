@@ -1,7 +1,7 @@
 use Rattle.std.proofs.Common.{List, ◌∷◌, ap, ap₂, refl, ◌∙◌, arith}
 use Rattle.tm_onig_search.specs.Outcomes.{Caps}
-use Rattle.tm_onig_vm.specs.Machine.{Thread, at_pc, exec}
-use Rattle.tm_onig_vm.specs.Threads.{plains, numbers_of, groups_under}
+use Rattle.tm_onig_vm.specs.inner.Machine.{Thread, at_pc, exec}
+use Rattle.tm_onig_vm.specs.inner.Threads.{plains, numbers_of, groups_under}
 use Rattle.tm_onig_vm.proofs.Stacked.{group_on, group_kept, set_back}
 use Rattle.tm_onig_vm.proofs.machine.close_act.Goals as goal
 

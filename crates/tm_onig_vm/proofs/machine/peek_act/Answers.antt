@@ -5,7 +5,7 @@ use Rattle.tm_onig_vm.proofs.machine.peek_act.Goals as goal
 pub returns-then-ahead : goal.returns-then-ahead
 returns-then-ahead c = λ s trail caps same.
     peek_ahead s c.args.line.now c.args.one.now c.args.ahead c.args.negative _ _ _ c.args.next c.args.pos trail caps _ (c.step_for.ensures.does trail c.args.pos caps)
-    c.goes_on.ensures c.cost_ahead.ensures.is c.if-ahead.true same c.stands-found.ensures
+    c.goes_on.ensures c.cost_of.ensures.is c.if-ahead.true same c.stands-found.ensures
 
 pub returns-then-pos-eq0 : goal.returns-then-pos-eq0
 returns-then-pos-eq0 c = λ s trail caps same.
@@ -15,4 +15,4 @@ returns-then-pos-eq0 c = λ s trail caps same.
 pub returns : goal.returns
 returns c = λ s trail caps same.
     peek_back s c.args.line.now c.args.one.now c.args.ahead c.args.negative _ _ _ c.args.next c.args.pos trail caps _ (c.step_for-2.ensures.does trail c.args.pos caps)
-    c.goes_on-2.ensures c.cost_back.ensures.is c.if-ahead.false (omega arith) same c.stands-found-2.ensures
+    c.goes_on-2.ensures c.cost_of-2.ensures.is c.if-ahead.false (omega arith) same c.stands-found-2.ensures

@@ -1,6 +1,6 @@
 use Rattle.std.proofs.Common.{sym, arith}
 use Rattle.tm_onig_vm.proofs.Rounds.{run_begins, run_ends, run_goes_on, run_is_all}
-use Rattle.tm_onig_vm.specs.Single.{single_has, most_of}
+use Rattle.tm_onig_vm.specs.inner.Single.{single_has, most_of}
 use Rattle.tm_onig_vm.proofs.singles.run_length.Goals as goal
 
 pub loop-i-init : goal.loop-i-init

@@ -1,5 +1,5 @@
 use Rattle.std.proofs.Common.{◌≡◌, ◌+◌, ◌-◌, drop}
-use Rattle.tm_onig_vm.specs.Single.{single_has, run_of, most_of}
+use Rattle.tm_onig_vm.specs.inner.Single.{single_has, run_of, most_of}
 use Rattle.tm_onig_vm.proofs.singles.run_length.Given as goal
 
 abbrev pub invariant-loop-i : goal.invariant-loop-i

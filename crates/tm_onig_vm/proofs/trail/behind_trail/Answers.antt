@@ -1,6 +1,6 @@
 use Rattle.std.proofs.Common.{ℕ, List, ◌∷◌, ◌-◌, ◌+◌, ◌++◌, ap, ap₂, ◌∙◌, reverse}
 use Rattle.std.proofs.lemmas.List.{append-nil}
-use Rattle.tm_onig_vm.specs.Machine.{Thread, from_each}
+use Rattle.tm_onig_vm.specs.inner.Machine.{Thread, from_each}
 use Rattle.tm_onig_vm.proofs.Stacked.{none_on, none_kept, behind_none, behind_some}
 use Rattle.tm_onig_vm.proofs.trail.behind_trail.Goals as goal
 

@@ -1,6 +1,6 @@
 use Rattle.std.proofs.Common.{ℕ, ◌-◌, List, ◌∷◌, get_or, ap, reverse, ◌∙◌, arith}
-use Rattle.tm_onig_vm.specs.Machine.{at_pc}
-use Rattle.tm_onig_vm.specs.Threads.{plains, numbers_of}
+use Rattle.tm_onig_vm.specs.inner.Machine.{at_pc}
+use Rattle.tm_onig_vm.specs.inner.Threads.{plains, numbers_of}
 use Rattle.tm_onig_vm.proofs.Stacked.{each_more}
 use Rattle.tm_onig_vm.proofs.trail.go_to_each.Goals as goal
 

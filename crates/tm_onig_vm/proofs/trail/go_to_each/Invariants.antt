@@ -1,7 +1,7 @@
 use Rattle.std.proofs.Common.{◌≡◌, ◌++◌, map, drop}
 use Rattle.tm_onig_search.specs.Outcomes.{Caps}
-use Rattle.tm_onig_vm.specs.Machine.{at_pc}
-use Rattle.tm_onig_vm.specs.Threads.{plains, numbers_of, groups_under}
+use Rattle.tm_onig_vm.specs.inner.Machine.{at_pc}
+use Rattle.tm_onig_vm.specs.inner.Threads.{plains, numbers_of, groups_under}
 use Rattle.tm_onig_vm.proofs.trail.go_to_each.Given as goal
 
 abbrev pub invariant-loop-i : goal.invariant-loop-i

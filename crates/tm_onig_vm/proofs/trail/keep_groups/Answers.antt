@@ -2,7 +2,7 @@ use Rattle.std.proofs.Common.{◌≡◌, ◌<◌, ◌≤◌, ◌+◌, List, leng
 use Rattle.std.proofs.lemmas.List.{take_all}
 use Rattle.tm_onig_vm.specs.declared.trail.Mark.{Mark}
 use Rattle.tm_onig_vm.specs.declared.trail.Trail.{Trail}
-use Rattle.tm_onig_vm.specs.Threads.{plains, undone, groups_under}
+use Rattle.tm_onig_vm.specs.inner.Threads.{plains, undone, groups_under}
 use Rattle.tm_onig_vm.proofs.Stacked.{Keeps, keeps_none, keeps_group, keeps_over, way_says, each_says, put_says, taken_says}
 use Rattle.tm_onig_vm.proofs.trail.keep_groups.Goals as goal
 use Rattle.tm_onig_vm.proofs.trail.keep_groups.Goals.{in-Group+in_ok-push-in-Group, in-Way, in-Each, in-Put, in-Taken}

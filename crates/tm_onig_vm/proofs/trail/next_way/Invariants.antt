@@ -1,5 +1,5 @@
 use Rattle.std.proofs.Common.{◌≡◌, vec_len}
-use Rattle.tm_onig_vm.specs.Threads.{plains, groups_under}
+use Rattle.tm_onig_vm.specs.inner.Threads.{plains, groups_under}
 use Rattle.tm_onig_vm.proofs.trail.next_way.Given as goal
 
 abbrev pub invariant-marks : goal.invariant-marks

@@ -9,7 +9,7 @@ use Rattle.tm_onig_vm.specs.declared.trail.Mark.TheVariants as M
 use Rattle.tm_onig_vm.specs.declared.trail.Trail.{Trail}
 use Rattle.tm_onig_vm.specs.declared.machine.Acted.{Acted}
 use Rattle.tm_onig_vm.specs.declared.machine.Acted.TheVariants as A
-use Rattle.tm_onig_vm.specs.Machine.{Thread as Plain, Did, Succeeds, Goes, Waits, at_pc, from_each, exec}
+use Rattle.tm_onig_vm.specs.inner.Machine.{Thread as Plain, Did, Succeeds, Goes, Waits, at_pc, from_each, exec}
 
 abbrev pub plain : Way → List ℕ → Caps → Plain
 plain way numbers caps = at_pc way.pc numbers way.pos caps

@@ -8,11 +8,15 @@ use Rattle.tm_onig_search.specs.Find.{last_group}
 use Rattle.tm_onig_vm.specs.declared.code.Instr.{Instr}
 use Rattle.tm_onig_vm.specs.declared.code.Instr.TheVariants as I
 use Rattle.tm_onig_vm.specs.declared.singles.Single.{Single}
-use Rattle.tm_onig_vm.specs.Near.{near}
-use Rattle.tm_onig_vm.specs.Single.{single_tree, fits}
-use Rattle.tm_onig_vm.specs.Size.{code_size}
+use Rattle.tm_onig_vm.specs.inner.Near.{near}
+use Rattle.tm_onig_vm.specs.inner.Single.{single_tree, fits}
+use Rattle.tm_onig_vm.specs.inner.Size.{code_size}
 
 module _ (code : List Instr) where
+  -- one character
+  abbrev pub OneCode : Tree → ℕ → ℕ → Type 0
+  OneCode t pc next = (one : Single) × (t ≡ single_tree one) × (slice_get code pc ≡ Some (I.One one next))
+
   -- a greedy loop over one character
   abbrev pub SpanCode : Tree → ℕ → Option ℕ → Bool → ℕ → ℕ → Type 0
   SpanCode t least greatest greedy pc next =
@@ -26,9 +30,9 @@ module _ (code : List Instr) where
     -- the code of the tree begins at pc, and goes on at next
     pub Code : Tree → ℕ → ℕ → Type 0
     Code Empty pc next = slice_get code pc ≡ Some (I.Step next)
-    Code (Char c fold) pc next = slice_get code pc ≡ Some (I.Char c fold next)
-    Code (Any newline) pc next = slice_get code pc ≡ Some (I.Any newline next)
-    Code (InSet set fold) pc next = slice_get code pc ≡ Some (I.Member set fold next)
+    Code (Char c fold) pc next = OneCode (Char c fold) pc next
+    Code (Any newline) pc next = OneCode (Any newline) pc next
+    Code (InSet set fold) pc next = OneCode (InSet set fold) pc next
     Code (Cat ts) pc next = (first : ℕ) × (slice_get code pc ≡ Some (I.Step first)) × RowCode ts first next
     Code (Alt ts) pc next = (targets : List ℕ) × (slice_get code pc ≡ Some (I.Choice targets)) × AnyCode ts targets next
     Code (Group number t) pc next =

@@ -1,7 +1,7 @@
 use Rattle.std.proofs.Common.{ap, sym, ◌∙◌}
 use Rattle.tm_onig_class.specs.Members.{has_char}
 use Rattle.tm_onig_class.proofs.Exact.{exact}
-use Rattle.tm_onig_class.proofs.sets.Set.exact.Goals as goal
+use Rattle.tm_onig_class.proofs.sets.Set.prove_exact.Goals as goal
 
 pub returns : goal.returns
 returns c = λ test same.

@@ -1,7 +1,7 @@
 -- How many instructions the code of a tree has.
 use Rattle.std.specs.Prelude.{ℕ, ◌+◌, true, false, if◌then◌else◌}
 use Rattle.tm_onig_class.specs.Tree.{Tree, Empty, Char, Any, InSet, Cat, Alt, Group, Atomic, Repeat, Look, Back, Holds, Trees, NoTrees, More}
-use Rattle.tm_onig_vm.specs.Single.{is_single, is_span}
+use Rattle.tm_onig_vm.specs.inner.Single.{is_single, is_span}
 
 -- One for each node, one more for the end of a group, of a loop's round and of a body that is searched
 -- alone, and one more for the place that a look-behind must come to. A greedy loop over one character is one

@@ -2,13 +2,13 @@
 use Rattle.std.specs.Prelude.{◌≡◌, ℕ, zero, suc, ◌+◌, ◌*◌, ◌-◌, ◌≤◌, min, not, Bool, true, false, List, [], ◌∷◌, length, map, Option, Some, None, slice_get, slice_set, nat_lt, ◌==◌, if◌then◌else◌}
 use Rattle.tm_onig_class.specs.Tree.{Tree}
 use Rattle.tm_onig_search.specs.Outcomes.{Caps, Hit, Outcome, Rest, tick, fail, spend, or_else, accept, and_then, unless}
-use Rattle.tm_onig_search.specs.Places.{Subject, passes, matches, in_set, is_any, begins, before, holds}
+use Rattle.tm_onig_search.specs.Places.{Subject, passes, begins, before, holds}
 use Rattle.tm_onig_search.specs.Search.{close, at_goal, is_at, again, last_set, width_or, search_tree}
 use Rattle.std.specs.Prelude.{slice_range, drop}
 use Rattle.tm_onig_vm.specs.declared.code.Instr.{Instr}
 use Rattle.tm_onig_vm.specs.declared.code.Instr.TheVariants as I
-use Rattle.tm_onig_vm.specs.Code.{Code}
-use Rattle.tm_onig_vm.specs.Single.{single_has, run_of, most_of}
+use Rattle.tm_onig_vm.specs.inner.Code.{Code}
+use Rattle.tm_onig_vm.specs.inner.Single.{single_has, run_of, most_of}
 
 -- the body alone gave o: whether it must not match, and whether the search goes on where it stood
 abbrev pub resumed : Bool → Bool → Outcome → Rest → Rest
@@ -106,9 +106,7 @@ module _ (s : Subject) where
   unfoldable pub exec : Instr → List ℕ → ℕ → Caps → Did
   exec I.Hole numbers pos caps = Goes 1 []
   exec I.Accept numbers pos caps = Succeeds
-  exec (I.Char c fold next) numbers pos caps = goes_if (passes (matches fold c) (slice_get s.line pos)) (at_pc next numbers (pos + 1) caps)
-  exec (I.Any newline next) numbers pos caps = goes_if (passes (is_any newline) (slice_get s.line pos)) (at_pc next numbers (pos + 1) caps)
-  exec (I.Member set fold next) numbers pos caps = goes_if (passes (in_set set fold) (slice_get s.line pos)) (at_pc next numbers (pos + 1) caps)
+  exec (I.One one next) numbers pos caps = goes_if (passes (single_has one) (slice_get s.line pos)) (at_pc next numbers (pos + 1) caps)
   exec (I.Span one least greatest next) numbers pos caps = span_of (run_of (single_has one) (most_of greatest s.line) (drop pos s.line)) least greatest next numbers pos caps
   exec (I.Peek one true negative next) numbers pos caps =
       let found = passes (single_has one) (slice_get s.line pos) in peek_of (if found then 3 else 2) negative found (at_pc next numbers pos caps)
