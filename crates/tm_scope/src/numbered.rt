@@ -48,7 +48,7 @@ impl<T: Exact> NumberedSet<T> {
     }
 
     /// Says that no value has two numbers: it does nothing.
-    pub fn known(&self)
+    pub fn prove_known(&self)
         ensures once { NoneTwice self.now.values }
         ensures small { taken self.now < 2 ^ 32 }
     {

@@ -91,7 +91,7 @@ impl ScopeTable {
 
     /// Says that the numbers are a numbering, and that with a list its names and all its fronts have
     /// numbers: it does nothing.
-    pub fn known(&self)
+    pub fn prove_known(&self)
         ensures numbering { IsNumbering self.now }
         ensures entries { HasPathEntries self.now }
         ensures states { self.now.states ≡ [] ∷ [] }
@@ -206,7 +206,7 @@ impl ScopeTable {
             (p.0.0 < length self.now.texts) × (p.1.0 < length self.now.paths)) }
         ensures before { MatchOption result (list.0 ≡ 0) (λ p. p.1.0 < list.0) }
     {
-        self.known();
+        self.prove_known();
         if list.0 == 0 {
             return None;
         }
@@ -248,7 +248,7 @@ impl ScopeTable {
         ensures absent { OnErr result (¬ Contains self.old.paths path.now) }
         ensures full { IfErr result (IsFullFor limit (path_entries path.now) self.new) }
     {
-        self.known();
+        self.prove_known();
         let mut list = ScopeList(0);
         for name in path.as_slice() {
             list = match self.push_text(list, name, limit) {

@@ -34,7 +34,7 @@ impl StateTable {
         ensures enough { IfOk result (λ _. pops ≤ length (state_at self.now state)) }
         ensures depth { IfErr result (λ depth. (depth ≡ length (state_at self.now state)) × (depth < pops)) }
     {
-        self.known();
+        self.prove_known();
         let mut rest = state;
         for count in 0..pops {
             if rest.0 == 0 {
@@ -53,7 +53,7 @@ impl StateTable {
         requires b { b.0 < length self.now.states }
         ensures { IfOk result (IsDifference (state_at self.now a) (state_at self.now b)) }
     {
-        self.closed();
+        self.prove_closed();
         let mut from = a;
         let mut to = b;
         let mut pops = 0;

@@ -30,6 +30,6 @@ pub fn applied_difference(
     let Ok(id) = table.apply(a, &delta, limit) else {
         unreachable!();
     };
-    table.known();
+    table.prove_known();
     Ok(id)
 }

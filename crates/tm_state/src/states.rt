@@ -54,9 +54,9 @@ impl Model for StateTable {
 impl States for StateTable {
     ghost tables = { λ t. t };
 
-    fn known(&self) {
+    fn prove_known(&self) {
         let _ = &self.states;
-        self.scopes.known();
+        self.scopes.prove_known();
     }
 
     fn text(&mut self, text: &Name) -> Result<TextId, TableFault> {
@@ -78,12 +78,12 @@ impl States for StateTable {
     fn intern(&mut self, frame: Frame, parent: StateId) -> Result<StateId, TableFault> {
         let limit = self.limit();
         let result = self.intern_within(frame, parent, limit);
-        self.known();
+        self.prove_known();
         result
     }
 
     fn top(&self, state: StateId) -> Option<(Frame, StateId)> {
-        self.known();
+        self.prove_known();
         if state.0 == 0 {
             return None;
         }
@@ -105,12 +105,12 @@ impl StateTable {
     /// Says that with a state its fronts, its scope lists, their fronts and all their texts have numbers,
     /// and with a list its names and its fronts; and that a front has no higher number than its state. It
     /// does nothing.
-    pub fn closed(&self)
+    pub fn prove_closed(&self)
         ensures entries { IsClosed self.now }
         ensures order { FrontsComeFirst self.now }
     {
         let _ = &self.states;
-        self.scopes.known();
+        self.scopes.prove_known();
     }
 
     /// The greatest number of texts, of lists and of states.
@@ -159,7 +159,7 @@ impl StateTable {
         ensures absent { OnErr result (¬ Contains self.old.states (deeper_state self.old parent frame)) }
         ensures full { IfErr result (IsFullFor limit (only_state (deeper_state self.old parent frame)) self.new) }
     {
-        self.scopes.known();
+        self.scopes.prove_known();
         let link = FrameLink {
             frame,
             rest: parent,
@@ -190,7 +190,7 @@ impl StateTable {
         requires b { b.0 < length self.now.states }
         ensures { IsTrue result ↔ (state_at self.now a ≡ state_at self.now b) }
     {
-        self.known();
+        self.prove_known();
         a == b
     }
 
@@ -221,7 +221,7 @@ impl StateTable {
     {
         let mut frames = Vec::new(self.states.allocator());
         let mut rest = state;
-        self.known();
+        self.prove_known();
         while rest.0 != 0 {
             let (frame, before) = self.innermost(rest);
             frames.push(self.frame_data(frame)?)?;
@@ -275,7 +275,7 @@ impl StateTable {
         ensures absent { OnErr result (¬ Contains self.old.states (state_at self.old state ++ frames.now)) }
         ensures full { IfErr result (IsFullFor limit (state_entries (state_at self.old state ++ frames.now)) self.new) }
     {
-        self.closed();
+        self.prove_closed();
         let mut deeper = state;
         for frame in frames {
             deeper = match self.with_frame(deeper, frame, limit) {
@@ -300,12 +300,12 @@ impl StateTable {
         ensures no_room { result ≡ Err (TableFull (min limit self.old.limit)) → ¬ HasRoomFor (min limit self.old.limit) (state_entries state.now) self.old }
         ensures known { Contains self.old.states state.now → self.new ≡ self.old }
     {
-        self.closed();
-        self.known();
+        self.prove_closed();
+        self.prove_known();
         let limit = limit.min(self.limit());
         let result = self.with_frames(StateId(0), state.as_slice(), limit);
-        self.closed();
-        self.known();
+        self.prove_closed();
+        self.prove_known();
         result
     }
 }

@@ -136,7 +136,7 @@ impl Text {
     }
 
     /// Says that the lines are a text: it does nothing.
-    pub fn known(&self)
+    pub fn prove_known(&self)
         ensures text { IsText self.now.lines }
         ensures small { IsSmall self.now.lines }
     {
@@ -147,7 +147,7 @@ impl Text {
     pub fn len(&self) -> u32
         ensures { result ≡ length self.now.lines }
     {
-        self.known();
+        self.prove_known();
         self.lines.len() as u32
     }
 
@@ -180,7 +180,7 @@ impl Text {
         ensures spare { IfOk result (λ p. length p.lines ≤ self.new.spare) }
         ensures fault { IfErr result (IsChangeFault self.old.lines change.now) }
     {
-        self.known();
+        self.prove_known();
         if let Some(place) = fault_of_places(self.lines.as_slice(), change) {
             return Err(ChangeFault::BadPlace(place));
         }

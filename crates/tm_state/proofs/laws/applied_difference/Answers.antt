@@ -11,4 +11,4 @@ unreachable-requires c =
 
 pub returns : goal.returns
 returns c =
-    led-number c.args.table.now c.args.a c.args.b c.in_ok-delta.delta c.requires.b c.in_ok-delta.ensures (state_entries (applied (state_at c.args.table.now c.args.a) c.in_ok-delta.delta)) c.apply.new.self c.in-Ok.id c.apply.ensures.grows c.known.ensures c.in-Ok.ensures.ok
+    led-number c.args.table.now c.args.a c.args.b c.in_ok-delta.delta c.requires.b c.in_ok-delta.ensures (state_entries (applied (state_at c.args.table.now c.args.a) c.in_ok-delta.delta)) c.apply.new.self c.in-Ok.id c.apply.ensures.grows c.prove_known.ensures c.in-Ok.ensures.ok

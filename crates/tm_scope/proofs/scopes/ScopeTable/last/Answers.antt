@@ -5,7 +5,7 @@ use Rattle.tm_scope.proofs.scopes.ScopeTable.last.Goals as goal
 
 pub returns-then-list-eq0-clause-parts : goal.returns-then-list-eq0-clause-parts
 returns-then-list-eq0-clause-parts c =
-    ap (λ n. get_or c.args.self.now.paths n []) c.if-list-eq0.true ∙ get_or_from_slice_get c.args.self.now.paths 0 [] [] c.known.ensures.numbering.empty_path
+    ap (λ n. get_or c.args.self.now.paths n []) c.if-list-eq0.true ∙ get_or_from_slice_get c.args.self.now.paths 0 [] [] c.prove_known.ensures.numbering.empty_path
 
 pub value-link-requires-clause-to : goal.value-link-requires-clause-to
 value-link-requires-clause-to c =

@@ -10,7 +10,7 @@ returns-in-Err-clause-grows c =
 pub returns-in-Err-clause-absent : goal.returns-in-Err-clause-absent
 returns-in-Err-clause-absent c =
     next-absent c.args.path.now c.loop-name.name-index c.name-item.result (rw c.as_slice-name-items.ensures at c.loop-name-test.true) (rw c.as_slice-name-items.ensures at c.name-item.is) c.args.self.now c.loop-name.self c.loop-name.list c.loop-name.invariant.at
-    c.known.ensures.entries c.loop-name.invariant.grows c.in-Err.ensures.absent
+    c.prove_known.ensures.entries c.loop-name.invariant.grows c.in-Err.ensures.absent
 
 pub returns-in-Err-clause-full : goal.returns-in-Err-clause-full
 returns-in-Err-clause-full c =

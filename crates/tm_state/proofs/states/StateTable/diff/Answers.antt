@@ -16,7 +16,7 @@ loop-from-preserved-then-to-from c = record {
   added = c.loop-from.invariant.added;
   longest = λ front h k.
       let both = c.loop-from.invariant.longest front h k in
-      (leaves c.args.self.now c.closed.ensures.order c.loop-from.from c.loop-from.to c.innermost.result.1 (frame_at c.args.self.now c.innermost.result.0) c.innermost.ensures.parts c.loop-from.invariant.from_low c.loop-from.invariant.to_low c.if-to-from.true front both.0 both.1, both.1);
+      (leaves c.args.self.now c.prove_closed.ensures.order c.loop-from.from c.loop-from.to c.innermost.result.1 (frame_at c.args.self.now c.innermost.result.0) c.innermost.ensures.parts c.loop-from.invariant.from_low c.loop-from.invariant.to_low c.if-to-from.true front both.0 both.1, both.1);
   small = omega (arith, c.loop-from.invariant.small, c.innermost.ensures.before);
 }
 
@@ -29,7 +29,7 @@ loop-from-preserved c = record {
       c.loop-from.pushed.items c.push.new.self.items c.loop-from.invariant.added c.innermost-else-to-from.ensures.parts c.in_ok-frame_data.ensures c.in_ok-push.ensures.items;
   longest = λ front h k.
       let both = c.loop-from.invariant.longest front h k in
-      (both.0, leaves c.args.self.now c.closed.ensures.order c.loop-from.to c.loop-from.from c.innermost-else-to-from.result.1 (frame_at c.args.self.now c.innermost-else-to-from.result.0) c.innermost-else-to-from.ensures.parts c.loop-from.invariant.to_low c.loop-from.invariant.from_low (omega (arith, c.if-to-from.false, c.loop-from-test.true)) front both.1 both.0);
+      (both.0, leaves c.args.self.now c.prove_closed.ensures.order c.loop-from.to c.loop-from.from c.innermost-else-to-from.result.1 (frame_at c.args.self.now c.innermost-else-to-from.result.0) c.innermost-else-to-from.ensures.parts c.loop-from.invariant.to_low c.loop-from.invariant.from_low (omega (arith, c.if-to-from.false, c.loop-from-test.true)) front both.1 both.0);
   small = c.loop-from.invariant.small;
 }
 

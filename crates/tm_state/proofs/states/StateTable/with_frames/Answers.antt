@@ -26,7 +26,7 @@ returns-in-Err-clause-grows c =
 pub returns-in-Err-clause-absent : goal.returns-in-Err-clause-absent
 returns-in-Err-clause-absent c =
     next-absent (state_at c.args.self.now c.args.state) c.args.frames.now c.loop-frame.frame-index c.frame-item.result c.loop-frame-test.true c.frame-item.is c.args.self.now c.loop-frame.self c.loop-frame.deeper c.loop-frame.invariant.at
-    c.closed.ensures.entries c.loop-frame.invariant.grows c.in-Err.ensures.absent
+    c.prove_closed.ensures.entries c.loop-frame.invariant.grows c.in-Err.ensures.absent
 
 pub returns-in-Err-clause-full : goal.returns-in-Err-clause-full
 returns-in-Err-clause-full c =
