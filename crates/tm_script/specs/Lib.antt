@@ -1,3 +1,4 @@
 pub mod Script
 pub mod Steps
 pub mod Values
+pub mod inner

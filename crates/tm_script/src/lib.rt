@@ -8,5 +8,6 @@
 pub mod script;
 pub mod steps;
 mod threads;
+pub mod tree;
 mod values;
 mod words;

@@ -6,6 +6,7 @@ ghost use Rattle.tm_script.specs.Steps.{said_in};
 
 use crate::steps::{ScriptStep, Scripted};
 use crate::words::{Said, read_line};
+use json::Scratch;
 use std::alloc::{AllocError, AllocFailed, Global};
 use std::marker::Model;
 use tm_defs::events::Step;
@@ -92,11 +93,12 @@ fn read_lines(alloc: Global, lines: &[&[u8]]) -> Result<Vec<Scripted>, ScriptFau
     ensures fault { IfErr result (IsRefusalOf (steps_of (map (λ line. said_in line.now) lines.now))) }
 {
     let mut steps = Vec::new(alloc);
+    let mut scratch = Scratch::new(alloc);
     let mut next = 0u32;
     for bytes in lines {
         let line = next;
         next += 1;
-        match read_line(alloc, bytes)? {
+        match read_line(alloc, bytes, &mut scratch)? {
             Said::Nothing => {}
             Said::Step(step) => {
                 if steps.len() == STEP_LIMIT {

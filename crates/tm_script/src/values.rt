@@ -1,17 +1,19 @@
-//! Values of a step's keys.
+//! The text of a line, its JSON value, and the values of a step's keys.
 ghost use Rattle.std.specs.Prelude.{◌≡◌, option_map, option_and_then, IfOk};
 ghost use Rattle.std.specs.Str.{chars};
+ghost use Rattle.serde_json.specs.Find.{get, as_str};
 ghost use Rattle.serde_json.specs.Read.{read};
 ghost use Rattle.serde_json.specs.View.{view};
-ghost use Rattle.tm_script.specs.Values.{json_in, utf8_in, item_count, whole_number, number_of, number_at, text_of};
+ghost use Rattle.tm_script.specs.Values.{utf8_in, number_of, number_at, text_of};
 
+use crate::tree::Tree;
 use serde_json::Value;
 use std::alloc::Global;
 use tm_defs::memory::OutOfMemory;
 use tm_defs::texts::Name;
 
 /// The bytes as text, where they are UTF-8.
-fn text_in(bytes: &[u8]) -> Option<&str>
+pub fn text_in(bytes: &[u8]) -> Option<&str>
     ensures { option_map (λ text. text.now) result ≡ utf8_in bytes.now }
 {
     match std::str::from_utf8(bytes) {
@@ -21,7 +23,7 @@ fn text_in(bytes: &[u8]) -> Option<&str>
 }
 
 /// The JSON value of a text.
-fn parsed(alloc: Global, text: &str) -> Result<Option<Value>, OutOfMemory>
+pub fn parsed(alloc: Global, text: &str) -> Result<Option<Value>, OutOfMemory>
     ensures { IfOk result (λ found. option_map view found ≡ read text.now) }
 {
     match Value::from_str(alloc, text) {
@@ -36,53 +38,23 @@ fn parsed(alloc: Global, text: &str) -> Result<Option<Value>, OutOfMemory>
     }
 }
 
-/// The JSON value of a line.
-pub fn value_in(alloc: Global, bytes: &[u8]) -> Result<Option<Value>, OutOfMemory>
-    ensures { IfOk result (λ found. option_map view found ≡ json_in bytes.now) }
+/// The whole number at a key.
+pub fn number_in<T: Tree>(value: &T, key: &str) -> Option<u32>
+    ensures { result ≡ number_of key.now (T.says value.now) }
 {
-    match text_in(bytes) {
-        Some(text) => parsed(alloc, text),
-        None => Ok(None),
-    }
-}
-
-/// A whole number below 2^32.
-pub fn number(value: &Value) -> Option<u32>
-    ensures { result ≡ whole_number (view value.now) }
-{
-    match value.as_u64() {
-        Some(found) => {
-            if found < 0x1_0000_0000 {
-                Some(found as u32)
-            } else {
-                None
-            }
-        }
+    match value.member(key) {
+        Some(found) => found.number(),
         None => None,
     }
 }
 
-/// The whole number at a key.
-pub fn number_in(value: &Value, key: &str) -> Option<u32>
-    ensures { result ≡ number_of key.now (view value.now) }
-{
-    value.get(key).and_then(number)
-}
-
 /// The whole number at a place of a list.
-pub fn number_among(value: &Value, place: usize) -> Option<u32>
-    ensures { result ≡ number_at place (view value.now) }
+pub fn number_among<T: Tree>(value: &T, place: usize) -> Option<u32>
+    ensures { result ≡ number_at place (T.says value.now) }
 {
-    value.get(place).and_then(number)
-}
-
-/// How many items a list has; 0 for another value.
-pub fn length_of(value: &Value) -> usize
-    ensures { result ≡ item_count (view value.now) }
-{
-    match value.as_array() {
-        Some(items) => items.len(),
-        None => 0,
+    match value.item(place) {
+        Some(found) => found.number(),
+        None => None,
     }
 }
 
@@ -94,10 +66,20 @@ fn characters(alloc: Global, text: &str) -> Result<Name, OutOfMemory>
 }
 
 /// The text at a key.
-pub fn name_in(alloc: Global, value: &Value, key: &str) -> Result<Option<Name>, OutOfMemory>
-    ensures { IfOk result (λ text. text ≡ text_of key.now (view value.now)) }
+pub fn word_in<'v, T: Tree>(value: &'v T, key: &str) -> Option<&'v str>
+    ensures { option_map (λ text. text.now) result ≡ option_and_then as_str (get key.now (T.says value.now)) }
 {
-    match value.get(key).and_then(Value::as_str) {
+    match value.member(key) {
+        Some(found) => found.text(),
+        None => None,
+    }
+}
+
+/// The characters of the text at a key.
+pub fn name_in<T: Tree>(alloc: Global, value: &T, key: &str) -> Result<Option<Name>, OutOfMemory>
+    ensures { IfOk result (λ text. text ≡ text_of key.now (T.says value.now)) }
+{
+    match word_in(value, key) {
         Some(text) => Ok(Some(characters(alloc, text)?)),
         None => Ok(None),
     }

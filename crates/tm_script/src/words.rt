@@ -1,12 +1,13 @@
 //! The step that a line says.
 ghost use Rattle.std.specs.List.{list_all};
-ghost use Rattle.std.specs.Prelude.{◌≡◌, ◌<◌, ℕ, option_map, option_and_then, IfOk};
-ghost use Rattle.serde_json.specs.View.{view};
+ghost use Rattle.std.specs.Prelude.{◌≡◌, ◌<◌, ℕ, option_map, option_and_then, IfOk, IfSome};
+ghost use Rattle.serde_json.specs.Read.{read};
 ghost use Rattle.tm_script.specs.Steps.{place_at, change_at, change_of, range_of, word_alone, step_named, step_of, step_in, is_blank, is_blank_line, said_in};
 
 use crate::steps::ScriptStep;
-use crate::values::{length_of, name_in, number, number_among, number_in, value_in};
-use serde_json::Value;
+use crate::tree::{Tree, is_plain};
+use crate::values::{name_in, number_among, number_in, parsed, text_in, word_in};
+use json::{Reader, Scratch};
 use std::alloc::Global;
 use tm_defs::changes::Change;
 use tm_defs::events::Step;
@@ -23,22 +24,22 @@ pub enum Said {
 }
 
 /// The line and column at a place of a list and the next one.
-fn place(value: &Value, at: usize) -> Option<(u32, u32)>
+fn place<T: Tree>(value: &T, at: usize) -> Option<(u32, u32)>
     requires { at < 8 }
-    ensures { result ≡ place_at at (view value.now) }
+    ensures { result ≡ place_at at (T.says value.now) }
 {
     number_among(value, at).zip(number_among(value, at + 1))
 }
 
 /// The change of an edit, by its places.
-fn change_between(
+fn change_between<T: Tree>(
     alloc: Global,
-    value: &Value,
-    places: &Value,
+    value: &T,
+    places: &T,
 ) -> Result<Option<Change>, OutOfMemory>
-    ensures { IfOk result (λ change. change ≡ change_at (view value.now) (view places.now)) }
+    ensures { IfOk result (λ change. change ≡ change_at (T.says value.now) (T.says places.now)) }
 {
-    if length_of(places) != 4 {
+    if places.count() != 4 {
         return Ok(None);
     }
     let Some((from_line, from_col)) = place(places, 0) else {
@@ -59,10 +60,10 @@ fn change_between(
     }))
 }
 
-fn edit(alloc: Global, value: &Value) -> Result<Option<ScriptStep>, OutOfMemory>
-    ensures { IfOk result (λ step. step ≡ option_map (λ change. ScriptStep.Core (Step.Edit change)) (change_of (view value.now))) }
+fn edit<T: Tree>(alloc: Global, value: &T) -> Result<Option<ScriptStep>, OutOfMemory>
+    ensures { IfOk result (λ step. step ≡ option_map (λ change. ScriptStep.Core (Step.Edit change)) (change_of (T.says value.now))) }
 {
-    let Some(places) = value.get("at") else {
+    let Some(places) = value.member("at") else {
         return Ok(None);
     };
     match change_between(alloc, value, places)? {
@@ -72,12 +73,12 @@ fn edit(alloc: Global, value: &Value) -> Result<Option<ScriptStep>, OutOfMemory>
 }
 
 /// The lines that are shown.
-fn range(value: &Value) -> Option<Option<(u32, u32)>>
-    ensures { result ≡ range_of (view value.now) }
+fn range<T: Tree>(value: &T) -> Option<Option<(u32, u32)>>
+    ensures { result ≡ range_of (T.says value.now) }
 {
-    match (value.get("from"), value.get("to")) {
+    match (value.member("from"), value.member("to")) {
         (None, None) => Some(None),
-        (Some(from), Some(to)) => number(from).zip(number(to)).map(Some),
+        (Some(from), Some(to)) => from.number().zip(to.number()).map(Some),
         _ => None,
     }
 }
@@ -98,8 +99,8 @@ fn alone(word: &str) -> Option<ScriptStep>
     Some(ScriptStep::Core(step))
 }
 
-fn named(alloc: Global, value: &Value, word: &str) -> Result<Option<ScriptStep>, OutOfMemory>
-    ensures { IfOk result (λ step. step ≡ step_named (view value.now) word.now) }
+fn named<T: Tree>(alloc: Global, value: &T, word: &str) -> Result<Option<ScriptStep>, OutOfMemory>
+    ensures { IfOk result (λ step. step ≡ step_named (T.says value.now) word.now) }
 {
     if word == "edit" {
         edit(alloc, value)
@@ -114,20 +115,67 @@ fn named(alloc: Global, value: &Value, word: &str) -> Result<Option<ScriptStep>,
     }
 }
 
-fn step(alloc: Global, value: &Value) -> Result<Option<ScriptStep>, OutOfMemory>
-    ensures { IfOk result (λ step. step ≡ step_of (view value.now)) }
+fn step<T: Tree>(alloc: Global, value: &T) -> Result<Option<ScriptStep>, OutOfMemory>
+    ensures { IfOk result (λ step. step ≡ step_of (T.says value.now)) }
 {
-    match value.get("step").and_then(Value::as_str) {
+    match word_in(value, "step") {
         Some(word) => named(alloc, value, word),
         None => Ok(None),
     }
 }
 
-fn step_of_line(alloc: Global, line: &[u8]) -> Result<Option<ScriptStep>, OutOfMemory>
+/// How deep arrays and objects may nest in a line.
+const MAX_DEPTH: usize = 127;
+
+/// The step of a text that is an object of plain values; it is not told of other texts.
+fn step_of_plain(
+    alloc: Global,
+    text: &str,
+    scratch: &mut Scratch,
+) -> Result<Option<Option<ScriptStep>>, OutOfMemory>
+    ensures { IfOk result (λ found. IfSome found (λ step. step ≡ option_and_then step_of (read text.now))) }
+{
+    let Ok(mut reader) = Reader::new(text, scratch) else {
+        return Err(OutOfMemory);
+    };
+    let Ok(value) = json::Value::read(alloc, &mut reader, MAX_DEPTH) else {
+        return Ok(None);
+    };
+    if reader.next().is_some() {
+        return Ok(None);
+    }
+    if !is_plain(&value) {
+        return Ok(None);
+    }
+    Ok(Some(step(alloc, &value)?))
+}
+
+/// The step of a text.
+fn step_of_text(
+    alloc: Global,
+    text: &str,
+    scratch: &mut Scratch,
+) -> Result<Option<ScriptStep>, OutOfMemory>
+    ensures { IfOk result (λ step. step ≡ option_and_then step_of (read text.now)) }
+{
+    if let Some(found) = step_of_plain(alloc, text, scratch)? {
+        return Ok(found);
+    }
+    match parsed(alloc, text)? {
+        Some(value) => step(alloc, &value),
+        None => Ok(None),
+    }
+}
+
+fn step_of_line(
+    alloc: Global,
+    line: &[u8],
+    scratch: &mut Scratch,
+) -> Result<Option<ScriptStep>, OutOfMemory>
     ensures { IfOk result (λ step. step ≡ step_in line.now) }
 {
-    match value_in(alloc, line)? {
-        Some(value) => step(alloc, &value),
+    match text_in(line) {
+        Some(text) => step_of_text(alloc, text, scratch),
         None => Ok(None),
     }
 }
@@ -145,13 +193,13 @@ fn blank(line: &[u8]) -> bool
 }
 
 /// What a line says.
-pub fn read_line(alloc: Global, line: &[u8]) -> Result<Said, OutOfMemory>
+pub fn read_line(alloc: Global, line: &[u8], scratch: &mut Scratch) -> Result<Said, OutOfMemory>
     ensures { IfOk result (λ said. said ≡ said_in line.now) }
 {
     if blank(line) {
         return Ok(Said::Nothing);
     }
-    match step_of_line(alloc, line)? {
+    match step_of_line(alloc, line, scratch)? {
         Some(step) => Ok(Said::Step(step)),
         None => Ok(Said::Wrong),
     }
