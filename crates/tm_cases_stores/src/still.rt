@@ -37,7 +37,7 @@ impl LineTok for Still {
         steps: &mut Steps<L>,
     ) -> Result<LineOut, LineFault> {
         steps.tick();
-        table.known();
+        table.prove_known();
         let tokens = Tokens::new(Vec::new(self.alloc));
         Ok(LineOut { tokens, end: start })
     }

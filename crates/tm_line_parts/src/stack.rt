@@ -47,7 +47,7 @@ pub fn has_below<S: States>(table: &S, stack: &Stack) -> bool
     requires { IsStack (S.tables table.now) stack.now }
     ensures { result ≡ some_open (below_at (S.tables table.now) stack.now) }
 {
-    table.known();
+    table.prove_known();
     if stack.below.len() > 0 {
         return true;
     }

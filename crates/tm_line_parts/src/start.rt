@@ -69,7 +69,7 @@ fn opening<S: States>(alloc: Global, table: &mut S, scopes: &ScopePath) -> Resul
     ensures adds { (meta : List (List ℕ) → ℕ) (o : Out) →
         Adds meta (makes (start_made scopes.now [])) (S.tables table.old) (S.tables table.new) o o result }
 {
-    table.known();
+    table.prove_known();
     let list = match push_all(table, ScopeList(0), scopes) {
         Ok(list) => list,
         Err(fault) => return Err(fault),
@@ -81,7 +81,7 @@ fn opening<S: States>(alloc: Global, table: &mut S, scopes: &ScopePath) -> Resul
         contents: list,
         at_eol: false,
     };
-    table.known();
+    table.prove_known();
     Ok(Way {
         stack: Stack {
             top: OpenFrame { frame, entry: None },

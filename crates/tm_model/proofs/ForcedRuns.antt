@@ -22,7 +22,7 @@ use Rattle.tm_machine.proofs.RightRuns.{AreRight-does}
 use Rattle.tm_model.specs.declared.model.Forced.{Forced}
 use Rattle.tm_model.specs.Held.{Held, IsSound, setting_now}
 use Rattle.tm_machine.specs.Numbered.{GrowsAtFront, IsTurnCause}
-use Rattle.tm_model.proofs.EntryLists.{ticks-front, front-within}
+use Rattle.tm_document.proofs.EntryLists.{ticks-front, front-within}
 use Rattle.tm_machine.proofs.KnownEnds.{some_inj}
 
 -- how many entries are good from the first on

@@ -1,57 +1,29 @@
--- What contracts see of a model: its text and what is kept of it, with states in place of their numbers.
-use Rattle.std.specs.Prelude.{◌≡◌, ℕ, suc, ◌<◌, ◌≤◌, List, [], ◌∷◌, length, map, ⊤}
+-- What contracts see of a model: a document, at a version that has a next one, or the last.
+use Rattle.std.specs.Prelude.{◌≡◌, ℕ, ◌<◌, ◌≤◌, List, length, ⊤}
 use Rattle.tm_defs.specs.declared.changes.Change.{Change}
 use Rattle.tm_defs.specs.declared.changes.ChangeFault.{ChangeFault}
 use Rattle.tm_defs.specs.declared.changes.ChangeFault.TheVariants as change
 use Rattle.tm_defs.specs.declared.frames.FrameData.{FrameData}
-use Rattle.tm_defs.specs.Tables.{Tables, TableEntries}
+use Rattle.tm_defs.specs.Tables.{TableEntries}
 use Rattle.tm_defs.specs.Tokenizer.{Tokenized}
-use Rattle.tm_machine.specs.declared.entries.Entry.{Entry}
-use Rattle.tm_machine.specs.Changes.{effect_of, lines_changed}
-use Rattle.tm_machine.specs.Documents.{Document, Rules, blank_entries, last_version}
-use Rattle.tm_machine.specs.Entries.{replaced, AreRight}
-use Rattle.tm_machine.specs.Scratch.{Tokenizing}
-use Rattle.tm_machine.specs.Settings.{rules_of}
+pub use Rattle.tm_document.specs.Held.{Held, document, held_rules, setting_now}
+use Rattle.tm_document.specs.Held.{new_held, changed_held, set_held}
+use Rattle.tm_machine.specs.Documents.{last_version}
+use Rattle.tm_machine.specs.Entries.{AreRight}
 use Rattle.tm_machine.specs.Turns.{opening}
 use Rattle.tm_text.specs.Texts.{IsChangeFault}
-use Rattle.tm_model.specs.Kept.{Kept}
-
-pub record Held (T : Type 0) : Type 0 where
-  pub settings : List T
-  pub epoch : ℕ
-  pub version : ℕ
-  pub budget : ℕ
-  pub lines : List (List ℕ)
-  pub entries : List (Entry (List FrameData))
-  pub tables : Tables
-
--- the document that the model keeps
-abbrev pub document : {T : Type 0} → Held T → Document
-document held = record { lines = held.lines; version = held.version; epoch = held.epoch; entries = held.entries }
-
-abbrev pub held_of : {T : Type 0} → List T → (epoch version budget : ℕ) → List (List ℕ) → Kept → Held T
-held_of settings epoch version budget lines kept =
-    record { settings = settings; epoch = epoch; version = version; budget = budget; lines = lines; entries = kept.entries; tables = kept.tables }
 
 -- no line has been done
 abbrev pub new_model : {T : Type 0} → List T → (budget limit : ℕ) → List (List ℕ) → Held T
-new_model settings budget limit lines = record {
-  settings = settings;
-  epoch = 0;
-  version = 0;
-  budget = budget;
-  lines = lines;
-  entries = blank_entries lines;
-  tables = record { texts = []; paths = [] ∷ []; states = [] ∷ []; limit = limit };
-}
+new_model settings budget limit lines = new_held settings budget limit lines
 
 -- the text and the entries behind a change
 abbrev pub changed_model : {T : Type 0} → Held T → Change → Held T
-changed_model held c = record held { version = suc held.version; lines = lines_changed held.lines c; entries = replaced (effect_of held.lines c) held.entries }
+changed_model held c = changed_held held c
 
 -- by another setting nothing is known of a line
 abbrev pub set_model : {T : Type 0} → Held T → (number : ℕ) → Held T
-set_model held number = record held { epoch = number; entries = blank_entries held.lines }
+set_model held number = set_held held number
 
 -- why a change is refused: the version is looked at first, then what the text says
 abbrev pub IsChangeCause : {T : Type 0} → Held T → Change → ChangeFault → Type 0
@@ -61,16 +33,9 @@ IsChangeCause held c (change.TextFull count) = (held.version < last_version) × 
 IsChangeCause held c change.OutOfMemory = ⊤
 
 module _ {T P : Type 0} (plain : T → P) (tokenized : P → List FrameData → List ℕ → Tokenized) (plain_cost : P → List FrameData → List ℕ → ℕ) (entries_made : P → List FrameData → List ℕ → TableEntries) where
-  abbrev pub held_rules : Held T → Rules
-  held_rules held = rules_of tokenized plain_cost entries_made (map plain held.settings) held.budget
-
-  -- the setting of the epoch
-  abbrev pub setting_now : Held T → Tokenizing
-  setting_now held = (held_rules held).setting held.epoch
-
   -- what every model keeps: each entry is right by the setting of the epoch
   pub record IsSound (held : Held T) : Type 0 where
     pub epoch : held.epoch < length held.settings
     pub lengths : length held.entries ≡ length held.lines
     pub version : held.version ≤ last_version
-    pub right : AreRight (setting_now held) held.budget opening held.lines held.entries
+    pub right : AreRight (setting_now plain tokenized plain_cost entries_made held) held.budget opening held.lines held.entries

@@ -2,5 +2,4 @@
 #![tactic(auto)]
 
 pub mod model;
-mod numbered;
 mod threads;

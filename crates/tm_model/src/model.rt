@@ -12,7 +12,6 @@ ghost use Rattle.tm_text.specs.Texts.{IsText};
 ghost use Rattle.tm_model.specs.Held.{Held, IsSound, document, new_model, changed_model, set_model, setting_now, IsChangeCause};
 ghost use Rattle.tm_machine.specs.Numbered.{with_state, GrowsAtFront, IsTurnCause};
 
-use crate::numbered::NumberedStore;
 use std::alloc::Global;
 use std::sync::Arc;
 use std::sync::ledger::Ledger;
@@ -24,6 +23,7 @@ use tm_defs::steps::Steps;
 use tm_defs::tables::TableFault;
 use tm_defs::texts::Line;
 use tm_defs::tokenizer::LineTok;
+use tm_document::document::Document;
 use tm_machine::entries::Entry;
 use tm_state::states::StateTable;
 use tm_text::text::Text;
@@ -43,22 +43,19 @@ pub struct Forced {
 /// search a line; the epoch is the number of the setting.
 #[derive(Drop)]
 pub struct Model<'a, T: LineTok> {
-    settings: &'a [T],
-    budget: u64,
-    epoch: u32,
-    version: u32,
-    text: Text,
-    kept: NumberedStore,
+    document: Document<'a, T>,
 }
 
 impl<'a, T: LineTok> std::marker::Model for Model<'a, T> {
-    ghost use Rattle.tm_model.specs.Held.{Held, IsSound, document, held_of};
+    ghost use Rattle.std.specs.Prelude.{◌≤◌};
+    ghost use Rattle.tm_machine.specs.Documents.{last_version};
+    ghost use Rattle.tm_model.specs.Held.{Held};
 
     ghost Value = { Held T };
 
-    ghost view = { λ a. held_of a.settings.now a.epoch a.version a.budget a.text.lines a.kept };
+    ghost view = { λ a. a.document };
 
-    ghost invariant = { λ a. IsSound T.plain T.tokenized T.plain_cost T.entries_made (held_of a.settings.now a.epoch a.version a.budget a.text.lines a.kept) };
+    ghost invariant = { λ a. a.document.version ≤ last_version };
 }
 
 impl<'a, T: LineTok> Model<'a, T> {
@@ -75,44 +72,36 @@ impl<'a, T: LineTok> Model<'a, T> {
         requires limit { 0 < limit }
         ensures { IfOk result (λ model. model ≡ new_model settings.entry.now budget limit text.lines) }
     {
-        text.known();
-        let kept = NumberedStore::new(alloc, text.len(), limit)?;
-        Ok(Model {
-            settings,
-            budget,
-            epoch: 0,
-            version: 0,
-            text,
-            kept,
-        })
+        let document = Document::new(alloc, settings, budget, limit, text)?;
+        Ok(Model { document })
     }
 
     /// How many lines the text has.
     pub fn len(&self) -> u32
         ensures { result ≡ length self.now.lines }
     {
-        self.text.len()
+        self.document.len()
     }
 
     /// How often the text was changed.
     pub fn version(&self) -> u32
         ensures { result ≡ self.now.version }
     {
-        self.version
+        self.document.version()
     }
 
     /// The number of the setting.
     pub fn epoch(&self) -> u32
         ensures { result ≡ self.now.epoch }
     {
-        self.epoch
+        self.document.epoch()
     }
 
     /// The first line that is not good. A line is accurate exactly where it stands before it.
     pub fn front(&self) -> Option<u32>
         ensures { result ≡ front self.now.entries }
     {
-        self.kept.front()
+        self.document.front()
     }
 
     /// Whether every line up to this one is good. What is stored of it is then what tokenizing the text from its first
@@ -122,10 +111,7 @@ impl<'a, T: LineTok> Model<'a, T> {
         ensures value { result ≡ is_accurate self.now.entries i }
         ensures right { IsTrue result → IsFromScratch (setting_now T.plain T.tokenized T.plain_cost T.entries_made self.now) self.now.lines self.now.entries i }
     {
-        match self.kept.front() {
-            Some(front) => i < front,
-            None => true,
-        }
+        self.document.accurate(i)
     }
 
     /// What is kept of a line.
@@ -133,7 +119,7 @@ impl<'a, T: LineTok> Model<'a, T> {
         requires { i < length self.now.lines }
         ensures { slice_get self.now.entries i ≡ Some (with_state self.now.tables result.now) }
     {
-        self.kept.entry(i)
+        self.document.entry(i)
     }
 
     /// The characters of a line.
@@ -141,25 +127,24 @@ impl<'a, T: LineTok> Model<'a, T> {
         requires { i < length self.now.lines }
         ensures { slice_get self.now.lines i ≡ Some (arc_value result.now) }
     {
-        self.text.line(i)
+        self.document.line_text(i)
     }
 
     /// The table in which the ends of entries are numbers.
     pub fn table(&self) -> &StateTable
         ensures { result.now ≡ self.now.tables }
     {
-        self.kept.table()
+        self.document.table()
     }
 
     /// Hands the invariant to callers: it does nothing.
-    pub fn sound(&self)
+    pub fn prove_sound(&self)
         ensures sound { IsSound T.plain T.tokenized T.plain_cost T.entries_made self.now }
         ensures accurate { AreAccurate (setting_now T.plain T.tokenized T.plain_cost T.entries_made self.now) self.now.lines self.now.entries }
         ensures numbered { IsNumbering self.now.tables }
         ensures text { IsText self.now.lines }
     {
-        self.kept.known();
-        self.text.known();
+        self.document.prove_sound();
     }
 
     /// Takes another setting, by which nothing is known of a line. The text and the tables stay. It takes no memory.
@@ -167,8 +152,7 @@ impl<'a, T: LineTok> Model<'a, T> {
         requires { number < length self.old.settings }
         ensures { self.new ≡ set_model self.old number }
     {
-        self.epoch = number;
-        self.kept.clear();
+        self.document.setting(number);
     }
 
     /// Tokenizes the first line that is not good. `Blocked` comes where it costs more than the budget, and then at each
@@ -182,10 +166,7 @@ impl<'a, T: LineTok> Model<'a, T> {
         ensures cause { IfErr result (IsTurnCause (setting_now T.plain T.tokenized T.plain_cost T.entries_made self.old) self.old.lines self.old.entries self.new.tables) }
         ensures ticks { steps.new ≡ steps.old + turn_ticks self.old.entries }
     {
-        match self.front() {
-            Some(i) => self.turn_at(i, steps),
-            None => Ok(Turn::Idle),
-        }
+        self.document.line(steps)
     }
 
     /// A turn on this line, which is the front.
@@ -198,10 +179,7 @@ impl<'a, T: LineTok> Model<'a, T> {
         ensures cause { IfErr result (IsTurnCause (setting_now T.plain T.tokenized T.plain_cost T.entries_made self.old) self.old.lines self.old.entries self.new.tables) }
         ensures ticks { steps.new ≡ steps.old + turn_ticks self.old.entries }
     {
-        self.text.known();
-        let setting = &self.settings[self.epoch as usize];
-        let line = self.text.line(i);
-        self.kept.turn(setting, self.budget, i, line, steps)
+        self.document.turn_at(i, steps)
     }
 
     /// The front, where it does not stand behind this line.
@@ -232,7 +210,7 @@ impl<'a, T: LineTok> Model<'a, T> {
         ensures accurate { IfOk result (λ forced. forced.blocked ≡ None → is_accurate self.new.entries line ≡ true) }
         ensures blocked { IfOk result (λ forced. IfSome forced.blocked (λ i. (i ≤ line) × IsBlockedFront (setting_now T.plain T.tokenized T.plain_cost T.entries_made self.old) self.old.budget self.old.lines self.new.entries i)) }
     {
-        self.sound();
+        self.prove_sound();
         let mut done = 0;
         'lines: while let Some(i) = self.front_to(line) {
             match self.turn_at(i, steps) {
@@ -264,7 +242,7 @@ impl<'a, T: LineTok> Model<'a, T> {
         ensures all { IfOk result (λ forced. forced.blocked ≡ None → front self.new.entries ≡ None) }
         ensures blocked { IfOk result (λ forced. IfSome forced.blocked (λ i. IsBlockedFront (setting_now T.plain T.tokenized T.plain_cost T.entries_made self.old) self.old.budget self.old.lines self.new.entries i)) }
     {
-        self.sound();
+        self.prove_sound();
         self.force(self.len() - 1, steps)
     }
 
@@ -277,15 +255,13 @@ impl<'a, T: LineTok> Model<'a, T> {
         ensures err { OnErr result (self.new ≡ self.old) }
         ensures cause { IfErr result (IsChangeCause self.old change.now) }
     {
-        if self.version == LAST_VERSION {
-            return Err(ChangeFault::VersionFull(self.version));
+        let version = self.document.version();
+        if version == LAST_VERSION {
+            return Err(ChangeFault::VersionFull(version));
         }
-        let plan = self.text.plan(change)?;
-        let Ok(()) = self.kept.replace(plan.effect()) else {
-            return Err(ChangeFault::OutOfMemory);
-        };
-        self.text.commit(plan);
-        self.version += 1;
-        Ok(self.version)
+        match self.document.change(change) {
+            Ok(_effect) => Ok(version + 1),
+            Err(fault) => Err(fault),
+        }
     }
 }

@@ -10,4 +10,4 @@ returns-then-len-gt0 g c =
     above-some t c.args.stack.now.below.items (map earlier (reverse (state_at t c.args.stack.now.base))) (omega (arith, c.len.ensures, c.if-len-gt0.true))
 
 pub returns : goal.returns
-returns g c = below-some (g.S.States.tables c.args.table.now) c.args.stack.now c.known.ensures c.requires.base (λ more. omega (arith, c.len.ensures, c.if-len-gt0.false, more))
+returns g c = below-some (g.S.States.tables c.args.table.now) c.args.stack.now c.prove_known.ensures c.requires.base (λ more. omega (arith, c.len.ensures, c.if-len-gt0.false, more))

@@ -8,7 +8,7 @@ lines-init g c = ran-begins g.T.LineTok.plain g.T.LineTok.tokenized g.T.LineTok.
 
 pub lines-preserved : goal.lines-preserved
 lines-preserved g c =
-    (ran-does g.T.LineTok.plain g.T.LineTok.tokenized g.T.LineTok.plain_cost g.T.LineTok.entries_made c.args.self.now c.lines.self c.args.line c.lines.done c.args.steps.now c.lines.steps c.lines.invariant c.turn_at.new.self c.turn_at.ensures.others c.in-Some.i _ c.turn_at.new.steps c.sound.ensures.sound.right c.in-Some.ensures.1 c.in-Some.ensures.0 (rw c.in-Ok-Done.field-0-is at c.in-Ok-Done.ensures.turn) c.turn_at.ensures.grows c.turn_at.ensures.ticks).0
+    (ran-does g.T.LineTok.plain g.T.LineTok.tokenized g.T.LineTok.plain_cost g.T.LineTok.entries_made c.args.self.now c.lines.self c.args.line c.lines.done c.args.steps.now c.lines.steps c.lines.invariant c.turn_at.new.self c.turn_at.ensures.others c.in-Some.i _ c.turn_at.new.steps c.prove_sound.ensures.sound.right c.in-Some.ensures.1 c.in-Some.ensures.0 (rw c.in-Ok-Done.field-0-is at c.in-Ok-Done.ensures.turn) c.turn_at.ensures.grows c.turn_at.ensures.ticks).0
 
 pub returns-in-Ok-Blocked-clause-forced : goal.returns-in-Ok-Blocked-clause-forced
 returns-in-Ok-Blocked-clause-forced g c = ran-blocked g.T.LineTok.plain g.T.LineTok.tokenized g.T.LineTok.plain_cost g.T.LineTok.entries_made c.args.self.now c.lines.self c.args.line c.lines.done c.args.steps.now c.lines.steps c.lines.invariant c.turn_at.new.self c.turn_at.ensures.others c.in-Some.i c.in-Ok-Blocked.front c.in-Some.ensures.1 c.in-Some.ensures.0 (rw c.in-Ok-Blocked.field-0-is at c.in-Ok-Blocked.ensures.turn)
@@ -20,10 +20,10 @@ pub returns-in-Ok-Blocked-clause-others : goal.returns-in-Ok-Blocked-clause-othe
 returns-in-Ok-Blocked-clause-others g c = others-next g.T.LineTok.plain g.T.LineTok.tokenized g.T.LineTok.plain_cost g.T.LineTok.entries_made c.args.self.now c.lines.self c.args.line c.lines.done c.args.steps.now c.lines.steps c.lines.invariant c.turn_at.new.self c.turn_at.ensures.others
 
 pub returns-in-Ok-Blocked-clause-grows : goal.returns-in-Ok-Blocked-clause-grows
-returns-in-Ok-Blocked-clause-grows g c = grows-turn g.T.LineTok.plain g.T.LineTok.tokenized g.T.LineTok.plain_cost g.T.LineTok.entries_made c.args.self.now c.lines.self c.args.line c.lines.done c.args.steps.now c.lines.steps c.lines.invariant c.turn_at.new.self c.turn_at.ensures.others c.sound.ensures.sound.right c.turn_at.ensures.grows
+returns-in-Ok-Blocked-clause-grows g c = grows-turn g.T.LineTok.plain g.T.LineTok.tokenized g.T.LineTok.plain_cost g.T.LineTok.entries_made c.args.self.now c.lines.self c.args.line c.lines.done c.args.steps.now c.lines.steps c.lines.invariant c.turn_at.new.self c.turn_at.ensures.others c.prove_sound.ensures.sound.right c.turn_at.ensures.grows
 
 pub returns-in-Ok-Blocked-clause-blocked : goal.returns-in-Ok-Blocked-clause-blocked
-returns-in-Ok-Blocked-clause-blocked g c = ran-costs g.T.LineTok.plain g.T.LineTok.tokenized g.T.LineTok.plain_cost g.T.LineTok.entries_made c.args.self.now c.lines.self c.args.line c.lines.done c.args.steps.now c.lines.steps c.lines.invariant c.turn_at.new.self c.turn_at.ensures.others c.in-Some.i c.in-Ok-Blocked.front c.sound.ensures.sound.right c.in-Some.ensures.1 c.in-Some.ensures.0 (rw c.in-Ok-Blocked.field-0-is at c.in-Ok-Blocked.ensures.turn)
+returns-in-Ok-Blocked-clause-blocked g c = ran-costs g.T.LineTok.plain g.T.LineTok.tokenized g.T.LineTok.plain_cost g.T.LineTok.entries_made c.args.self.now c.lines.self c.args.line c.lines.done c.args.steps.now c.lines.steps c.lines.invariant c.turn_at.new.self c.turn_at.ensures.others c.in-Some.i c.in-Ok-Blocked.front c.prove_sound.ensures.sound.right c.in-Some.ensures.1 c.in-Some.ensures.0 (rw c.in-Ok-Blocked.field-0-is at c.in-Ok-Blocked.ensures.turn)
 
 pub unreachable-requires : goal.unreachable-requires
 unreachable-requires g c =
@@ -39,7 +39,7 @@ pub returns-in-Err-clause-others : goal.returns-in-Err-clause-others
 returns-in-Err-clause-others g c = others-next g.T.LineTok.plain g.T.LineTok.tokenized g.T.LineTok.plain_cost g.T.LineTok.entries_made c.args.self.now c.lines.self c.args.line c.lines.done c.args.steps.now c.lines.steps c.lines.invariant c.turn_at.new.self c.turn_at.ensures.others
 
 pub returns-in-Err-clause-grows : goal.returns-in-Err-clause-grows
-returns-in-Err-clause-grows g c = grows-turn g.T.LineTok.plain g.T.LineTok.tokenized g.T.LineTok.plain_cost g.T.LineTok.entries_made c.args.self.now c.lines.self c.args.line c.lines.done c.args.steps.now c.lines.steps c.lines.invariant c.turn_at.new.self c.turn_at.ensures.others c.sound.ensures.sound.right c.turn_at.ensures.grows
+returns-in-Err-clause-grows g c = grows-turn g.T.LineTok.plain g.T.LineTok.tokenized g.T.LineTok.plain_cost g.T.LineTok.entries_made c.args.self.now c.lines.self c.args.line c.lines.done c.args.steps.now c.lines.steps c.lines.invariant c.turn_at.new.self c.turn_at.ensures.others c.prove_sound.ensures.sound.right c.turn_at.ensures.grows
 
 pub returns-in-Err-clause-cause : goal.returns-in-Err-clause-cause
 returns-in-Err-clause-cause g c = cause-refused g.T.LineTok.plain g.T.LineTok.tokenized g.T.LineTok.plain_cost g.T.LineTok.entries_made c.args.self.now c.lines.self c.args.line c.lines.done c.args.steps.now c.lines.steps c.lines.invariant c.turn_at.new.self c.turn_at.ensures.others c.in-Err.fault c.in-Err.ensures.err c.in-Err.ensures.cause
@@ -47,11 +47,11 @@ returns-in-Err-clause-cause g c = cause-refused g.T.LineTok.plain g.T.LineTok.to
 pub overflow_add-done : goal.overflow_add-done
 overflow_add-done g c =
     let few = ran-few g.T.LineTok.plain g.T.LineTok.tokenized g.T.LineTok.plain_cost g.T.LineTok.entries_made c.args.self.now c.lines.self c.args.line c.lines.done c.args.steps.now c.lines.steps c.lines.invariant in
-    let small = (small-text c.args.self.now.lines c.sound.ensures.text).few in
-    omega (arith, few, small, c.sound.ensures.sound.lengths)
+    let small = (small-text c.args.self.now.lines c.prove_sound.ensures.text).few in
+    omega (arith, few, small, c.prove_sound.ensures.sound.lengths)
 
 pub lines-smaller : goal.lines-smaller
-lines-smaller g c = ran-smaller g.T.LineTok.plain g.T.LineTok.tokenized g.T.LineTok.plain_cost g.T.LineTok.entries_made c.args.self.now c.lines.self c.args.line c.lines.done c.args.steps.now c.lines.steps c.lines.invariant c.turn_at.new.self c.turn_at.ensures.others c.in-Some.i _ c.turn_at.new.steps c.sound.ensures.sound.right c.in-Some.ensures.1 c.in-Some.ensures.0 (rw c.in-Ok-Done.field-0-is at c.in-Ok-Done.ensures.turn) c.turn_at.ensures.grows c.turn_at.ensures.ticks
+lines-smaller g c = ran-smaller g.T.LineTok.plain g.T.LineTok.tokenized g.T.LineTok.plain_cost g.T.LineTok.entries_made c.args.self.now c.lines.self c.args.line c.lines.done c.args.steps.now c.lines.steps c.lines.invariant c.turn_at.new.self c.turn_at.ensures.others c.in-Some.i _ c.turn_at.new.steps c.prove_sound.ensures.sound.right c.in-Some.ensures.1 c.in-Some.ensures.0 (rw c.in-Ok-Done.field-0-is at c.in-Ok-Done.ensures.turn) c.turn_at.ensures.grows c.turn_at.ensures.ticks
 
 pub returns-clause-ticks : goal.returns-clause-ticks
 returns-clause-ticks g c = (c.lines.self.entries, ran-counted g.T.LineTok.plain g.T.LineTok.tokenized g.T.LineTok.plain_cost g.T.LineTok.entries_made c.args.self.now c.lines.self c.args.line c.lines.done c.args.steps.now c.lines.steps c.lines.invariant c.in_default.ensures)

@@ -1,0 +1,5 @@
+pub mod ChangedDocuments
+pub mod EntryLists
+pub mod KeptSteps
+pub mod KeptTurns
+pub mod SoundDocuments

@@ -1,0 +1,6 @@
+//! A text that is tokenized line by line: what the model of the foreground and the worker in the background share.
+#![tactic(auto)]
+
+pub mod document;
+pub mod numbered;
+mod threads;

@@ -1,0 +1,11 @@
+pub mod Cuts
+pub mod FreshSteps
+pub mod GoodLines
+pub mod MachinePosts
+pub mod Posts
+pub mod Ranges
+pub mod RunItems
+pub mod RunSteps
+pub mod Segments
+pub mod Tests
+pub mod WorkerSteps

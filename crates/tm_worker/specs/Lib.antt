@@ -1,0 +1,5 @@
+pub mod Fresh
+pub mod Orders
+pub mod Posted
+pub mod Working
+pub mod inner
