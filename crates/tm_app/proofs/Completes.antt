@@ -14,8 +14,8 @@ use Rattle.tm_rules.specs.Sizes.{rule_limit}
 use Rattle.tm_app.specs.declared.play.Fault.{Fault}
 use Rattle.tm_app.specs.declared.play.Fault.TheVariants as fault
 use Rattle.tm_app.specs.Command.{Names, Command, Lint, Run, IsCommand, settings_named}
-use Rattle.tm_app.specs.Given.{rules_in, setting_in, grammar_files, AllGiven, IsSettingGiven, AreGiven, AreLoaded}
-use Rattle.tm_app.specs.Setup.{SetupData, Work, Linted, Played}
+use Rattle.tm_app.specs.inner.Given.{rules_in, setting_in, grammar_files, AllGiven, IsSettingGiven, AreGiven, AreLoaded}
+use Rattle.tm_app.specs.inner.Setup.{SetupData, Work, Linted, Played}
 use Rattle.tm_app.specs.Reading.{Part, the_settings, the_grammar, the_text, the_script, Refuses, text_form, script_form, IsReached, HasManyRules, IsLoaded, IsSetupLoaded, GivesScript}
 use Rattle.tm_app.specs.Outcome.{Outcome, WorkDone, WorkStops, IsDone}
 use Rattle.tm_app.specs.Complete.{IsGood, Completes}

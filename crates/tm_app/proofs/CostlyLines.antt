@@ -21,7 +21,7 @@ use Rattle.tm_machine.proofs.RightRuns.{right-new, right-step}
 use Rattle.tm_machine.proofs.SoundSteps.{text-follows}
 use Rattle.tm_app.specs.Play.{Prints, Plays, Acts, machine_steps}
 use Rattle.tm_app.specs.Printed.{tells_from, tells_blocked, answer_text, quiet_text, turn_text, work_text, blocked_text}
-use Rattle.tm_app.specs.Stands.{Tells}
+use Rattle.tm_app.specs.inner.Stands.{Tells}
 use Rattle.tm_app.specs.Stops.{HasCostlyLine}
 use Rattle.tm_app.proofs.PlayRuns.{step-first}
 use Rattle.tm_app.proofs.Tells.{nothing-tells, both-tell, turn-tells, work-tells, blocked-tells, shown-tells}

@@ -8,7 +8,7 @@ use Rattle.tm_line.specs.Setting.{Setting, setting_of, setting_with}
 use Rattle.tm_rules.specs.Rules.{grammars_of, plain_rules}
 use Rattle.tm_rules.specs.declared.grammars.Grammars.{Grammars}
 use Rattle.tm_template.specs.Names.{words_of}
-use Rattle.tm_app.specs.Given.{rules_in, setting_in, AllGiven, IsSettingGiven, AreGiven, IsFileReached, IsSettingReached}
+use Rattle.tm_app.specs.inner.Given.{rules_in, setting_in, AllGiven, IsSettingGiven, AreGiven, IsFileReached, IsSettingReached}
 
 -- a list in front of a place, the item there and what is behind it
 parted : {X : Type 0} (xs : List X) (i : ℕ) (x : X) → i < length xs → x ≡ get_or xs i x → xs ≡ take i xs ++ x ∷ drop (i + 1) xs

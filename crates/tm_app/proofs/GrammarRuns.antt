@@ -10,8 +10,8 @@ use Rattle.tm_machine.specs.Reach.{stand_in}
 use Rattle.tm_model.specs.Held.{Held, new_model}
 use Rattle.tm_app.specs.declared.play.Fault.{Fault}
 use Rattle.tm_app.specs.Outcome.{LinesPlay, LinesStop, SetupPlays, SetupStops, grammar_rules}
-use Rattle.tm_app.specs.Setup.{SetupData}
-use Rattle.tm_app.specs.Stands.{Stands, IsReached, AllDone, AllStopped, table_limit}
+use Rattle.tm_app.specs.inner.Setup.{SetupData}
+use Rattle.tm_app.specs.inner.Stands.{Stands, IsReached, AllDone, AllStopped, table_limit}
 use Rattle.tm_app.proofs.CostlyLines.{costly-lines}
 use Rattle.tm_app.proofs.StandSteps.{new-stands, new-reached}
 

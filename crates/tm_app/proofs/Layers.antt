@@ -11,7 +11,7 @@ use Rattle.tm_line.specs.Setting.{Setting}
 use Rattle.tm_rules.specs.Sizes.{rule_limit}
 use Rattle.tm_app.specs.declared.status.Status.{Status}
 use Rattle.tm_app.specs.Command.{Names, Lint, Run}
-use Rattle.tm_app.specs.Given.{rules_in, setting_in, grammar_files, AllGiven, IsSettingGiven, AreGiven, AreLoaded, IsFileReached, IsGrammarReached, HasTooMany, IsTooMany}
+use Rattle.tm_app.specs.inner.Given.{rules_in, setting_in, grammar_files, AllGiven, IsSettingGiven, AreGiven, AreLoaded, IsFileReached, IsGrammarReached, HasTooMany, IsTooMany}
 use Rattle.tm_app.specs.Reading.{the_grammar, the_text, text_form, no_file, IsGrammarPart, IsReadStop, IsReached, HasManyRules, IsLoadStop, IsScriptStop, GivesScript}
 use Rattle.tm_app.specs.Told.{Told, where_told, HasGrown, IsFileStop, IsBuildStop}
 use Rattle.tm_app.proofs.Givens.{all-given-next, are-given-next, file-next, setting-next, file-first, file-later, given-many}

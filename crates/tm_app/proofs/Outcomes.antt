@@ -17,7 +17,7 @@ use Rattle.tm_forms.specs.Script.{scan_steps}
 use Rattle.tm_app.specs.Command.{Names, Run, IsCommand}
 use Rattle.tm_app.specs.Lint.{lint_text}
 use Rattle.tm_app.specs.Reading.{IsSetupLoaded, GivesScript}
-use Rattle.tm_app.specs.Setup.{SetupData, Work, Linted, Played}
+use Rattle.tm_app.specs.inner.Setup.{SetupData, Work, Linted, Played}
 use Rattle.tm_machine.specs.Machine.{machine_of}
 use Rattle.tm_machine.specs.Changes.{lines_of}
 use Rattle.tm_app.specs.Outcome.{Outcome, StopsLoad, SetupStops, WorkDone, WorkStops, IsDone, grammar_rules, IsBadPlace}

@@ -9,7 +9,7 @@ use Rattle.tm_forms.specs.declared.form.Refusal.{Refusal}
 use Rattle.tm_forms.specs.declared.form.Refusal.TheVariants as refusal
 use Rattle.tm_forms.specs.Settings.{SettingsData}
 use Rattle.tm_app.specs.Command.{Names, Command, Lint, Run}
-use Rattle.tm_app.specs.Given.{IsGrammarReached}
+use Rattle.tm_app.specs.inner.Given.{IsGrammarReached}
 use Rattle.tm_app.specs.Reading.{Part, the_settings, the_grammar, the_text, the_script, Refuses, text_form, IsGrammarPart, IsReadStop, IsReached, HasManyRules, GivesSettings, HasSettings, IsLoadStop, IsScriptStop}
 
 pub not-many : (cause : Refusal) → TooManyRules ≡ what_of cause → ⊥

@@ -30,7 +30,7 @@ use Rattle.tm_model.specs.Held.{Held, document, held_rules, setting_now, changed
 use Rattle.tm_machine.specs.Numbered.{GrowsAtFront, IsTurnCause}
 use Rattle.tm_app.specs.Play.{Prints, Acts}
 use Rattle.tm_app.specs.Printed.{turn_text, work_text, blocked_text, shown}
-use Rattle.tm_app.specs.Stands.{Stands, IsReached, table_limit}
+use Rattle.tm_app.specs.inner.Stands.{Stands, IsReached, table_limit}
 use Rattle.tm_app.specs.Stops.{IsBadEdit, large_reach}
 
 module _ {T P : Type 0} (plain : T → P) (tokenized : P → List FrameData → List ℕ → Tokenized) (plain_cost : P → List FrameData → List ℕ → ℕ) (entries_made : P → List FrameData → List ℕ → TableEntries) where

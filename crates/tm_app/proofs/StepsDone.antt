@@ -23,7 +23,7 @@ use Rattle.tm_app.specs.declared.play.Fault.{Fault}
 use Rattle.tm_app.specs.declared.play.Fault.TheVariants.{TableFull}
 use Rattle.tm_app.specs.Play.{Prints}
 use Rattle.tm_app.specs.Printed.{turn_text, tells_of, work_text, blocked_text, shown}
-use Rattle.tm_app.specs.Stands.{Tells, Stands, StepDone, StepStopped}
+use Rattle.tm_app.specs.inner.Stands.{Tells, Stands, StepDone, StepStopped}
 use Rattle.tm_app.specs.Stops.{IsWriteStop}
 use Rattle.tm_app.proofs.PlayRuns.{takes-none, write-stops}
 use Rattle.tm_app.proofs.StandSteps.{line-prints, line-reached, settle-prints, quiet-prints, lines-reached, full-reached, edit-prints, edit-reached, show-prints}

@@ -12,7 +12,7 @@ use Rattle.tm_machine.specs.declared.entries.Entry.{Entry}
 use Rattle.tm_machine.specs.Entries.{is_accurate}
 use Rattle.tm_app.specs.Hex.{eight_digits}
 use Rattle.tm_app.specs.Printed.{tells_from, tells_blocked, tells_of, bang_text, turn_text, work_text, blocked_text, token_text, tokens_text, line_text, shown_from, shown}
-use Rattle.tm_app.specs.Stands.{Tells}
+use Rattle.tm_app.specs.inner.Stands.{Tells}
 
 -- no line feed
 abbrev NoFeed : List ℕ → Type 0

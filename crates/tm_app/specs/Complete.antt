@@ -8,7 +8,7 @@ use Rattle.tm_app.specs.declared.status.Status.TheVariants.{Ok, Usage, FileFault
 use Rattle.tm_app.specs.Command.{Command, IsCommand}
 use Rattle.tm_app.specs.Outcome.{WorkDone, WorkStops}
 use Rattle.tm_app.specs.Reading.{Part, IsReached, IsLoaded}
-use Rattle.tm_app.specs.Setup.{Work}
+use Rattle.tm_app.specs.inner.Setup.{Work}
 use Rattle.tm_app.specs.Told.{HasAdded, always_told}
 
 -- all files are told and of their form, no setting has too many rules, and no read or write failed

@@ -1,6 +1,5 @@
 pub mod Command
 pub mod Complete
-pub mod Given
 pub mod Hex
 pub mod Lint
 pub mod Outcome
@@ -8,8 +7,7 @@ pub mod Play
 pub mod Printed
 pub mod Reading
 pub mod Report
-pub mod Setup
-pub mod Stands
 pub mod Status
 pub mod Stops
 pub mod Told
+pub mod inner

@@ -9,7 +9,7 @@ use Rattle.tm_machine.specs.Machine.{Machine, machine_of}
 use Rattle.tm_machine.specs.Reach.{stand_in, stands_of}
 use Rattle.tm_machine.specs.Settings.{rules_of}
 use Rattle.tm_outside.specs.Causes.{Takes, TakesFront}
-use Rattle.tm_app.specs.Setup.{SetupData, Work, Linted, Played}
+use Rattle.tm_app.specs.inner.Setup.{SetupData, Work, Linted, Played}
 use Rattle.tm_app.specs.declared.play.Fault.{Fault}
 use Rattle.tm_app.specs.declared.play.Fault.TheVariants as fault
 use Rattle.tm_app.specs.declared.status.What.TheVariants.{BadPlace}

@@ -9,8 +9,8 @@ use Rattle.tm_forms.specs.Script.{script_in, scan_steps}
 use Rattle.tm_forms.specs.Text.{text_in}
 use Rattle.tm_line.specs.Setting.{Setting}
 use Rattle.tm_app.specs.Command.{Names, Command, Lint, Run, settings_named}
-use Rattle.tm_app.specs.Given.{AreLoaded, IsGrammarReached, IsTooMany}
-use Rattle.tm_app.specs.Setup.{SetupData, Work, Linted, Played}
+use Rattle.tm_app.specs.inner.Given.{AreLoaded, IsGrammarReached, IsTooMany}
+use Rattle.tm_app.specs.inner.Setup.{SetupData, Work, Linted, Played}
 use Rattle.tm_app.specs.declared.status.What.TheVariants.{TooManyRules}
 use Rattle.tm_app.specs.declared.status.Status.{Status}
 use Rattle.tm_app.specs.declared.status.Status.TheVariants as status

@@ -4,7 +4,7 @@ ghost use Rattle.std.specs.List.{list_all};
 ghost use Rattle.tm_app.specs.Command.{lint_words, run_words};
 ghost use Rattle.tm_app.specs.Complete.{IsGood, Completes};
 ghost use Rattle.tm_app.specs.Outcome.{Outcome, SetupPlays, SetupStops, LinesPlay, LinesStop, IsBadPlace};
-ghost use Rattle.tm_app.specs.Setup.{Work, setup_data};
+ghost use Rattle.tm_app.specs.inner.Setup.{Work, setup_data};
 ghost use Rattle.tm_app.specs.Status.{status_text};
 ghost use Rattle.tm_forms.specs.Script.{is_built};
 ghost use Rattle.tm_outside.specs.Causes.{Takes, Rose};

@@ -5,7 +5,7 @@
 ghost use Rattle.std.specs.Prelude.{◌≡◌, ℕ, List, ◌≤◌, ◌++◌, ◌||◌, IfOk, IfErr, OnOk, IsTrue, Option};
 ghost use Rattle.std.specs.List.{list_all};
 ghost use Rattle.tm_app.specs.Printed.{shown, is_before, tells_of, work_text, blocked_text};
-ghost use Rattle.tm_app.specs.Stands.{StepDone, StepStopped, AllDone, AllStopped};
+ghost use Rattle.tm_app.specs.inner.Stands.{StepDone, StepStopped, AllDone, AllStopped};
 ghost use Rattle.tm_app.specs.Stops.{IsWriteStop};
 ghost use Rattle.tm_forms.specs.Script.{is_built};
 ghost use Rattle.tm_outside.specs.Causes.{Takes, TakesFront, Rose};
@@ -62,7 +62,7 @@ fn show<T: LineTok, S: Sink>(alloc: Global, model: &Model<'_, T>, out: &mut S) -
     ensures err { IfErr result (IsWriteStop (TakesFront (S.taken out.old) (S.taken out.new) (shown model.now.entries)) (S.faults out.old) (S.faults out.new)) }
     ensures never_falls { S.faults out.old ≤ S.faults out.new }
 {
-    model.sound();
+    model.prove_sound();
     let front = model.front();
     for i in 0..model.len() {
         let accurate = stands_before(front, i);
@@ -134,7 +134,7 @@ fn do_line<T: LineTok, S: Sink, L: Ledger>(
     ensures err { IfErr result (StepStopped T.plain T.tokenized T.plain_cost T.entries_made model.old step.now (S.taken out.old) (S.taken out.new) (S.faults out.old) (S.faults out.new)) }
     ensures never_falls { S.faults out.old ≤ S.faults out.new }
 {
-    model.sound();
+    model.prove_sound();
     match model.line(steps) {
         Ok(turn) => match printed::turn_line(alloc, turn) {
             Ok(text) => match write_line(text.as_str(), out) {
@@ -144,7 +144,7 @@ fn do_line<T: LineTok, S: Sink, L: Ledger>(
             Err(_) => Err(Fault::OutOfMemory),
         },
         Err(TableFault::TableFull(_)) => {
-            model.sound();
+            model.prove_sound();
             Err(Fault::TableFull)
         }
         Err(TableFault::OutOfMemory) => Err(Fault::OutOfMemory),
@@ -164,14 +164,14 @@ fn do_settle<T: LineTok, S: Sink, L: Ledger>(
     ensures err { IfErr result (StepStopped T.plain T.tokenized T.plain_cost T.entries_made model.old step.now (S.taken out.old) (S.taken out.new) (S.faults out.old) (S.faults out.new)) }
     ensures never_falls { S.faults out.old ≤ S.faults out.new }
 {
-    model.sound();
+    model.prove_sound();
     match model.settle(steps) {
         Ok(forced) => match write_forced(alloc, forced.done, forced.blocked, out) {
             Ok(()) => Ok(forced.blocked.is_some()),
             Err(fault) => Err(fault),
         },
         Err(TableFault::TableFull(_)) => {
-            model.sound();
+            model.prove_sound();
             Err(Fault::TableFull)
         }
         Err(TableFault::OutOfMemory) => Err(Fault::OutOfMemory),
@@ -191,14 +191,14 @@ fn do_quiet_settle<T: LineTok, S: Sink, L: Ledger>(
     ensures err { IfErr result (StepStopped T.plain T.tokenized T.plain_cost T.entries_made model.old step.now (S.taken out.old) (S.taken out.new) (S.faults out.old) (S.faults out.new)) }
     ensures never_falls { S.faults out.old ≤ S.faults out.new }
 {
-    model.sound();
+    model.prove_sound();
     match model.settle(steps) {
         Ok(forced) => match write_blocked(alloc, forced.blocked, out) {
             Ok(()) => Ok(forced.blocked.is_some()),
             Err(fault) => Err(fault),
         },
         Err(TableFault::TableFull(_)) => {
-            model.sound();
+            model.prove_sound();
             Err(Fault::TableFull)
         }
         Err(TableFault::OutOfMemory) => Err(Fault::OutOfMemory),
@@ -244,7 +244,7 @@ fn do_step<T: LineTok, S: Sink, L: Ledger>(
         ScriptStep::Core(_) => unreachable!(),
         ScriptStep::SettleQuietly => do_quiet_settle(alloc, model, step, out, steps),
         ScriptStep::Show => {
-            model.sound();
+            model.prove_sound();
             match show(alloc, model, out) {
                 Ok(()) => Ok(false),
                 Err(fault) => Err(fault),

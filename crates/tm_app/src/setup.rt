@@ -1,9 +1,9 @@
 //! The files of a run, all read.
 ghost use Rattle.std.specs.Prelude.{◌≡◌, ◌<◌, ◌∷◌, ◌≤◌, ℕ, List, length, map, IfOk, IfErr, option_map, string_bytes};
 ghost use Rattle.tm_app.specs.Command.{Lint, Run};
-ghost use Rattle.tm_app.specs.Given.{rules_in, setting_in, AllGiven, IsSettingGiven, AreGiven, AreLoaded, IsFileReached, HasTooMany, IsGrammarReached, IsTooMany, grammar_files};
+ghost use Rattle.tm_app.specs.inner.Given.{rules_in, setting_in, AllGiven, IsSettingGiven, AreGiven, AreLoaded, IsFileReached, HasTooMany, IsGrammarReached, IsTooMany, grammar_files};
 ghost use Rattle.tm_app.specs.Reading.{IsSetupLoaded, IsLoadStop, IsReadStop, IsGrammarPart, no_file, GivesScript, IsScriptStop};
-ghost use Rattle.tm_app.specs.Setup.{setup_data};
+ghost use Rattle.tm_app.specs.inner.Setup.{setup_data};
 ghost use Rattle.tm_app.specs.Told.{HasGrown, IsBuildStop, where_told};
 ghost use Rattle.tm_rules.specs.Sizes.{rule_limit};
 

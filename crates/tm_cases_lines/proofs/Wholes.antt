@@ -11,7 +11,7 @@ use Rattle.tm_machine.proofs.ReachedTables.{reaches-more, stands-more}
 use Rattle.tm_app.specs.Complete.{Completes}
 use Rattle.tm_app.specs.Outcome.{grammar_rules}
 use Rattle.tm_app.specs.Play.{machine_steps}
-use Rattle.tm_app.specs.Setup.{Work, Linted, Played}
+use Rattle.tm_app.specs.inner.Setup.{Work, Linted, Played}
 use Rattle.tm_app.specs.Stops.{large_reach}
 use Rattle.tm_app.specs.declared.status.What.TheVariants.{NotJson, BadShape, NotYet, TooManyRules, BadPlace}
 use Rattle.tm_app.specs.declared.status.Status.{Status}

@@ -7,7 +7,7 @@ use Rattle.tm_machine.specs.Machine.{Machine, machine_of}
 use Rattle.tm_machine.specs.Reach.{stand_in, stands_of, ReachesMoreThan}
 use Rattle.tm_app.specs.Outcome.{WorkDone, grammar_rules}
 use Rattle.tm_app.specs.Play.{Plays, machine_steps}
-use Rattle.tm_app.specs.Setup.{Work, Linted, Played}
+use Rattle.tm_app.specs.inner.Setup.{Work, Linted, Played}
 use Rattle.tm_app.specs.Stops.{IsBadEdit, HasCostlyLine, large_reach}
 use Rattle.tm_app.specs.declared.status.Status.{Status}
 use Rattle.tm_app.specs.declared.status.Status.TheVariants.{Ok, Usage, FileFault, Refused, SinkFault, OutOfMemory, BudgetSeen, TableFull}

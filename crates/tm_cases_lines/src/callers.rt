@@ -2,7 +2,7 @@
 ghost use Rattle.std.specs.Prelude.{◌≡◌, ◌<◌, ◌-◌, ◌^◌, ⊤, [], length, map, string_bytes, IsTrue, IfOk, MatchOption};
 ghost use Rattle.tm_app.specs.Complete.{IsGood};
 ghost use Rattle.tm_app.specs.Outcome.{Outcome};
-ghost use Rattle.tm_app.specs.Setup.{Work};
+ghost use Rattle.tm_app.specs.inner.Setup.{Work};
 ghost use Rattle.tm_cases_lines.specs.Unhindered.{IsFree, IsWhole};
 ghost use Rattle.tm_line.specs.Tokenizing.{rules_tokenized};
 ghost use Rattle.tm_machine.specs.Entries.{IsFromScratch};
@@ -76,7 +76,7 @@ pub fn tokenized<S: States, L: Ledger>(
     requires { length line.now < 2 ^ 31 - 1 }
     ensures { IfOk result (λ out. out.tokens ≡ (rules_tokenized setting.now [] line.now).tokens) }
 {
-    table.known();
+    table.prove_known();
     setting.line(table, StateId(0), line, budget, steps)
 }
 

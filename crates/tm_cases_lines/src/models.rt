@@ -137,7 +137,7 @@ fn accurate_text<T: LineTok>(model: &Model<T>, i: u32) -> Result<&'static str, C
 }
 
 fn line_text<T: LineTok>(alloc: Global, model: &Model<T>, i: u32) -> Result<String, CaseFault> {
-    model.sound();
+    model.prove_sound();
     if i >= model.len() {
         return Err(CaseFault::NoField);
     }
@@ -186,7 +186,7 @@ fn word_act<T: LineTok, L: Ledger>(
             with_front(alloc, model, answer.as_str())
         }
         "setting" => {
-            model.sound();
+            model.prove_sound();
             model.setting(model.epoch());
             with_front(alloc, model, "set")
         }

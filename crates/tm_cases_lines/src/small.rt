@@ -57,7 +57,7 @@ impl LineTok for Small {
             return Err(LineFault::OutOfMemory);
         };
         let tokens = Tokens::new(list);
-        table.known();
+        table.prove_known();
         if meta == 0 {
             return Ok(LineOut { tokens, end: start });
         }

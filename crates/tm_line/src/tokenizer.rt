@@ -131,7 +131,7 @@ fn start_of<S: States>(
     ensures full { let state = state_at (S.tables table.old) start in
         IfErr result (IsFullForSome (start_made scopes.now state) (S.tables table.new)) }
 {
-    table.known();
+    table.prove_known();
     if start.0 != 0 {
         return Ok(start);
     }

@@ -230,7 +230,7 @@ fn has_frames<S: States>(table: &S, state: StateId) -> bool
     requires { state.0 < length (S.tables table.now).states }
     ensures { result ≡ some_open (reverse (state_at (S.tables table.now) state)) }
 {
-    table.known();
+    table.prove_known();
     state.0 != 0
 }
 

@@ -4,7 +4,7 @@ use Rattle.tm_outside.specs.Causes.{Takes, TakesFront}
 use Rattle.tm_app.specs.declared.play.Fault.TheVariants as fault
 use Rattle.tm_app.specs.Command.{Lint}
 use Rattle.tm_app.specs.Lint.{lint_text}
-use Rattle.tm_app.specs.Setup.{Linted}
+use Rattle.tm_app.specs.inner.Setup.{Linted}
 use Rattle.tm_app.specs.Stops.{IsWriteStop}
 use Rattle.tm_app.proofs.Outcomes.{load-outcome}
 use Rattle.tm_app.proofs.PlayRuns.{takes-none}

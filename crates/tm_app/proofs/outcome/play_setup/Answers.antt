@@ -1,6 +1,6 @@
 use Rattle.std.proofs.Common.{◌∙◌, ap, Err}
 use Rattle.tm_machine.specs.Changes.{lines_of}
-use Rattle.tm_app.specs.Setup.{setup_data}
+use Rattle.tm_app.specs.inner.Setup.{setup_data}
 use Rattle.tm_app.proofs.GrammarRuns.{setup-play, setup-stop}
 use Rattle.tm_app.proofs.PlayRuns.{if_ok, if_err}
 use Rattle.tm_app.proofs.TextSizes.{never-full}

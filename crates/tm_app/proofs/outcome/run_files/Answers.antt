@@ -1,7 +1,7 @@
 use Rattle.std.proofs.Common.{◌≡◌, Bool, true, false, refl, inr, ap, subst, option_map}
 use Rattle.tm_app.specs.Outcome.{SetupPlays}
 use Rattle.tm_app.specs.Command.{Names, Run}
-use Rattle.tm_app.specs.Setup.{setup_data, Played}
+use Rattle.tm_app.specs.inner.Setup.{setup_data, Played}
 use Rattle.tm_app.proofs.Outcomes.{load-outcome, place-outcome}
 use Rattle.tm_app.proofs.PlayRuns.{takes-none}
 use Rattle.tm_app.proofs.outcome.run_files.Goals as goal

@@ -4,7 +4,7 @@ use Rattle.tm_machine.specs.Machine.{Machine}
 use Rattle.tm_machine.specs.Reach.{stand_in}
 use Rattle.tm_outside.specs.Causes.{Takes}
 use Rattle.tm_app.specs.Play.{Plays}
-use Rattle.tm_app.specs.Stands.{Stands, IsReached, Tells}
+use Rattle.tm_app.specs.inner.Stands.{Stands, IsReached, Tells}
 use Rattle.tm_app.proofs.PlayRuns.{past-of}
 use Rattle.tm_app.proofs.play.play.Given as goal
 

@@ -31,7 +31,7 @@ pub returns-clause-ok : goal.returns-clause-ok
 returns-clause-ok g c =
     let all = c.args.model.now.entries in
     let inv = c.loop-i.invariant in
-    let beside = c.sound.ensures.accurate.beside in
+    let beside = c.prove_sound.ensures.accurate.beside in
     let past : length all ≤ c.loop-i.i = omega (arith, beside, c.len-i-end.ensures, c.loop-i-test.false) in
     subst (λ bytes. Takes (g.S.Sink.taken c.args.out.now) (g.S.Sink.taken c.loop-i.out) bytes)
     (sym (append-nil inv.bytes) ∙ ap (λ l. inv.bytes ++ shown_from all c.loop-i.i l) (sym (drop_all c.loop-i.i all past)) ∙ inv.rest) inv.takes

@@ -1,5 +1,5 @@
 use Rattle.std.proofs.Common.{◌≡◌, List, ℕ, take}
-use Rattle.tm_app.specs.Given.{AreGiven}
+use Rattle.tm_app.specs.inner.Given.{AreGiven}
 use Rattle.tm_app.specs.Told.{HasGrown, where_told}
 use Rattle.tm_app.proofs.setup.load_list.Given as goal
 

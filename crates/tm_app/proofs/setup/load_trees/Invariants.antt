@@ -1,5 +1,5 @@
 use Rattle.std.proofs.Common.{◌≡◌, List, ℕ, map, take, string_bytes}
-use Rattle.tm_app.specs.Given.{AllGiven}
+use Rattle.tm_app.specs.inner.Given.{AllGiven}
 use Rattle.tm_app.specs.Told.{HasGrown, where_told}
 use Rattle.tm_app.proofs.setup.load_trees.Given as goal
 

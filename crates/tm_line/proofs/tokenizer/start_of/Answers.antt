@@ -14,7 +14,7 @@ returns-in-Ok-clause-grows g c =
     let first = names_made (path_at t (record { 0 = 0 })) c.args.scopes.now in
     let then = only_state (state_at u c.args.start ++ opened 0 (path_at u c.in-Ok.path) false ∷ []) in
     let P : TableEntries → Type 0 = λ made. GrowsWithin made t v in
-    subst P (start_made-is t u c.args.start c.in-Ok.path c.args.scopes.now first c.known.ensures c.if-start-ne0.false c.requires c.in-Ok.ensures.grows c.in-Ok.ensures.ok)
+    subst P (start_made-is t u c.args.start c.in-Ok.path c.args.scopes.now first c.prove_known.ensures c.if-start-ne0.false c.requires c.in-Ok.ensures.grows c.in-Ok.ensures.ok)
     (grows-then first then t u v c.in-Ok.ensures.grows c.push_frame.ensures.grows)
 
 pub returns-in-Ok-clause-full : goal.returns-in-Ok-clause-full
@@ -25,7 +25,7 @@ returns-in-Ok-clause-full g c =
     let first = names_made (path_at t (record { 0 = 0 })) c.args.scopes.now in
     let then = only_state (state_at u c.args.start ++ opened 0 (path_at u c.in-Ok.path) false ∷ []) in
     let P : TableEntries → Type 0 = λ made. IfErr c.push_frame.result (IsFullForSome made v) in
-    subst P (start_made-is t u c.args.start c.in-Ok.path c.args.scopes.now first c.known.ensures c.if-start-ne0.false c.requires c.in-Ok.ensures.grows c.in-Ok.ensures.ok)
+    subst P (start_made-is t u c.args.start c.in-Ok.path c.args.scopes.now first c.prove_known.ensures c.if-start-ne0.false c.requires c.in-Ok.ensures.grows c.in-Ok.ensures.ok)
     (full_err-then first then v c.push_frame.result c.push_frame.ensures.full)
 
 pub returns-in-Err-clause-grows : goal.returns-in-Err-clause-grows
@@ -35,7 +35,7 @@ returns-in-Err-clause-grows g c =
     let first = names_made (path_at t (record { 0 = 0 })) c.args.scopes.now in
     let then = only_state (opened 0 c.args.scopes.now false ∷ []) in
     let P : TableEntries → Type 0 = λ made. GrowsWithin made t u in
-    subst P (start_made-half t c.args.start c.args.scopes.now c.known.ensures c.if-start-ne0.false) (grows-left first then t u c.in-Err.ensures.grows)
+    subst P (start_made-half t c.args.start c.args.scopes.now c.prove_known.ensures c.if-start-ne0.false) (grows-left first then t u c.in-Err.ensures.grows)
 
 pub returns-in-Err-clause-full : goal.returns-in-Err-clause-full
 returns-in-Err-clause-full g c =
@@ -44,4 +44,4 @@ returns-in-Err-clause-full g c =
     let first = names_made (path_at t (record { 0 = 0 })) c.args.scopes.now in
     let then = only_state (opened 0 c.args.scopes.now false ∷ []) in
     let P : TableEntries → Type 0 = λ made. IsFullForSome made u c.in-Err.fault in
-    subst P (start_made-half t c.args.start c.args.scopes.now c.known.ensures c.if-start-ne0.false) (full-first first then u c.in-Err.fault c.in-Err.ensures.full)
+    subst P (start_made-half t c.args.start c.args.scopes.now c.prove_known.ensures c.if-start-ne0.false) (full-first first then u c.in-Err.fault c.in-Err.ensures.full)
