@@ -11,8 +11,8 @@ use Rattle.tm_line_turns.specs.declared.found.Whose.TheVariants.{AtBegin, AtEnd,
 use Rattle.tm_line_turns.specs.LineRun.{Open, Place, Part, Turn, Grammar, Stops, joined, makes, paint, names_made, end_made, opened, framed, plain, closing, anchor_of, is_at, near, has, some_open, stack_of, advances, most_open, popped, popped_contents, covered, ended, entered, begun, matched, rests}
 use Rattle.tm_line_turns.proofs.Turns.{both}
 use Rattle.tm_line_parts.specs.declared.rules.Out.{Out}
-use Rattle.tm_line_parts.specs.declared.run.Next.{Next}
-use Rattle.tm_line_parts.specs.declared.run.Next.TheVariants as next
+use Rattle.tm_line_parts.specs.declared.stops.Next.{Next}
+use Rattle.tm_line_parts.specs.declared.stops.Next.TheVariants as next
 use Rattle.tm_line_parts.specs.declared.stack.Way.{Way}
 use Rattle.tm_line_parts.specs.Adds.{Adds}
 use Rattle.tm_line_parts.specs.Did.{Does, Leads}

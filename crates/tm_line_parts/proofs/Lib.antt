@@ -2,11 +2,16 @@ pub mod Adding
 pub mod Bases
 pub mod Cases
 pub mod Entering
+pub mod Grouping
 pub mod Interning
+pub mod LayerSteps
 pub mod Lines
+pub mod Naming
 pub mod Paths
 pub mod Popping
 pub mod StacksGrown
 pub mod Starting
+pub mod Taking
 pub mod Tests
 pub mod Turning
+pub mod Walking

@@ -1,5 +1,5 @@
 -- What a stack and layers mean stays as the table grows.
-use Rattle.std.proofs.Common.{◌≡◌, ℕ, ◌++◌, List, [], ◌∷◌, length, map, reverse, Some, None, Option, refl, ap, sym, ◌∙◌, get_or, arith, length-append}
+use Rattle.std.proofs.Common.{◌≡◌, ℕ, ◌<◌, ◌++◌, List, [], ◌∷◌, length, map, reverse, Some, None, Option, refl, ap, sym, ◌∙◌, get_or, arith, length-append}
 use Rattle.std.specs.Option.{option_map}
 use Rattle.std.proofs.Math.ListN.{get_or-append}
 use Rattle.std.proofs.lemmas.List.{reverse-append}
@@ -11,6 +11,8 @@ use Rattle.tm_defs.proofs.Chains.{path_at-grown, state_at-grown, paths-longer, s
 use Rattle.tm_line_parts.specs.declared.stack.OpenFrame.{OpenFrame}
 use Rattle.tm_line_parts.specs.declared.stack.Stack.{Stack}
 use Rattle.tm_line_turns.specs.LineRun.{earlier}
+use Rattle.tm_line_parts.specs.declared.layers.Layer.{Layer}
+use Rattle.tm_line_parts.specs.Layers.{AreLayers, layer_at, layers_at}
 use Rattle.tm_line_parts.specs.Stacks.{open_at, opens, below_at, stack_at, AreFrames, IsStack}
 
 pub map-push : {X Y : Type 0} (f : X → Y) (xs : List X) (x : X) → map f (xs ++ x ∷ []) ≡ map f xs ++ f x ∷ []
@@ -66,3 +68,17 @@ module _ (a : TableEntries) (t u : Tables) (h : GrowsWithin a t u) where
 
   pub stack-same : (s : Stack) → IsStack t s → stack_at u s ≡ stack_at t s
   stack-same s k = ap (λ o. o ∷ below_at u s) (open-same s.top k.top) ∙ ap (λ l. open_at t s.top ∷ l) (below-same s k)
+
+  pub layers-known : (ls : List Layer) → AreLayers t ls → AreLayers u ls
+  layers-known [] k = tt
+  layers-known (l ∷ ls) k = (omega (arith, k.0, paths-longer a t u h), layers-known ls k.1)
+
+  layer-same : (l : Layer) → l.scopes.0 < length t.paths → layer_at u l ≡ layer_at t l
+  layer-same l k = ap (λ p. record { scopes = p; end = l.end }) (path_at-grown a t u l.scopes k h)
+
+  pub layers-same : (ls : List Layer) → AreLayers t ls → layers_at u ls ≡ layers_at t ls
+  layers-same [] k = refl
+  layers-same (l ∷ ls) k =
+      ap (map (layer_at u)) (reverse-append (l ∷ []) ls) ∙ map-push (layer_at u) (reverse ls) l
+      ∙ ap (λ x. x ++ layer_at u l ∷ []) (layers-same ls k.1) ∙ ap (λ x. layers_at t ls ++ x ∷ []) (layer-same l k.0)
+      ∙ sym (ap (map (layer_at t)) (reverse-append (l ∷ []) ls) ∙ map-push (layer_at t) (reverse ls) l)

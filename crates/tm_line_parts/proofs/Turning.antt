@@ -10,8 +10,8 @@ use Rattle.tm_line_turns.specs.LineRun.{Place, Part, Outcome, Turn, Stops, GoesO
 use Rattle.tm_line_turns.specs.LineRun as line
 use Rattle.tm_line_turns.proofs.Turns.{Falls, IsWithin}
 use Rattle.tm_line_parts.specs.declared.rules.Out.{Out}
-use Rattle.tm_line_parts.specs.declared.run.Next.{Next}
-use Rattle.tm_line_parts.specs.declared.run.Next.TheVariants as next
+use Rattle.tm_line_parts.specs.declared.stops.Next.{Next}
+use Rattle.tm_line_parts.specs.declared.stops.Next.TheVariants as next
 use Rattle.tm_line_parts.specs.declared.stack.Way.{Way}
 use Rattle.tm_line_parts.specs.Adds.{Adds, Spends}
 use Rattle.tm_line_parts.specs.Did.{Does, Ran}

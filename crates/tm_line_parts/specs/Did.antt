@@ -7,8 +7,8 @@ use Rattle.tm_defs.specs.Tables.{IsOptionalText, Tables, text_at}
 use Rattle.tm_line_turns.specs.LineRun as line
 use Rattle.tm_line_turns.specs.LineRun.{Turn, Stops, GoesOn, Outcome, all_of, end_made, makes, names_made}
 use Rattle.tm_line_parts.specs.declared.rules.Out.{Out}
-use Rattle.tm_line_parts.specs.declared.run.Next.{Next}
-use Rattle.tm_line_parts.specs.declared.run.Next.TheVariants as next
+use Rattle.tm_line_parts.specs.declared.stops.Next.{Next}
+use Rattle.tm_line_parts.specs.declared.stops.Next.TheVariants as next
 use Rattle.tm_line_parts.specs.declared.stack.Way.{Way}
 use Rattle.tm_line_parts.specs.Adds.{Adds}
 use Rattle.tm_line_parts.specs.Stacks.{IsStack, stack_at, place_at}

@@ -1,4 +1,5 @@
 pub mod Adds
 pub mod Did
+pub mod Layers
 pub mod Stacks
 pub mod Whole

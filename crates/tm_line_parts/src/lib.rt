@@ -7,10 +7,13 @@
 #![tactic(auto)]
 
 mod ends;
+mod groups;
+mod layers;
 pub mod line;
 mod parts;
 pub mod rules;
 mod run;
 mod stack;
 mod start;
+mod stops;
 mod tables;

@@ -6,7 +6,7 @@ ghost use Rattle.tm_line_parts.specs.Whole.{Finishes, Tokenizes};
 ghost use Rattle.tm_line_parts.specs.Stacks.{IsStack, stack_at};
 
 use crate::ends::interned;
-use crate::rules::{Job, LineRules, Out};
+use crate::rules::{Job, Level, LineRules, Out};
 use crate::run::run;
 use crate::stack::Way;
 use crate::start::start_way;
@@ -16,6 +16,9 @@ use tm_defs::tables::{States, TableFault};
 use tm_defs::texts::{Line, ScopePath};
 use tm_defs::tokenizer::{LineFault, LineOut};
 use tm_line_turns::painter::tokens_of;
+
+/// How many times the groups of a line may be tokenized again one within the other.
+const MOST_DEEP: u32 = 8;
 
 /// The tokens of what was painted, and the state behind the line, which is made here.
 fn finished<S: States, R: LineRules>(
@@ -65,7 +68,13 @@ pub fn tokenize_line<S: States, R: LineRules>(
         Ok(way) => way,
         Err(fault) => return Err(fault),
     };
-    if let Err(fault) = run(job, room, table, &mut out, &mut way) {
+    let level = Level {
+        alloc: job.alloc,
+        rules: job.rules,
+        text: job.text,
+        depth: MOST_DEEP,
+    };
+    if let Err(fault) = run(&level, room, table, &mut out, &mut way) {
         return Err(fault);
     }
     finished(job, table, &out, &way, job.text.len() - 1)

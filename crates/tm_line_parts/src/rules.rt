@@ -13,7 +13,8 @@ use tm_defs::memory::OutOfMemory;
 use tm_defs::tables::States;
 use tm_defs::texts::{Name, ScopePath};
 use tm_defs::tokenizer::LineFault;
-use tm_line_turns::found::{Match, Winner};
+use tm_line_turns::captures::GroupRule;
+use tm_line_turns::found::{Match, Whose, Winner};
 use tm_line_turns::painter::Painted;
 
 /// What is asked at a turn: what the innermost rule, whose frame this is, finds first from a position on, in
@@ -31,7 +32,7 @@ pub struct Question {
 /// Rules by number, as a line asks them.
 pub trait LineRules {
     /// What a line keeps for its searches.
-    type Room;
+    type Room: Drop;
 
     ghost use Rattle.std.specs.Prelude.{List, ℕ};
     ghost use Rattle.tm_defs.specs.Tables.{GrowsWithin, TableEntries, Tables};
@@ -85,6 +86,19 @@ pub trait LineRules {
         requires { IsMatchWithin (length text.now) m.now }
         ensures { IfOk result (λ end. end ≡ (language self.now).end_text text.now rule m.now) };
 
+    /// What a rule says of the groups of one of its patterns, in the order in which they are walked.
+    fn captures(&self, whose: Whose, rule: u32) -> &[GroupRule]
+        ensures { result.now ≡ (language self.now).captures whose rule };
+
+    /// The names that a text gives with what a match captured.
+    fn filled(&self, text: &[char], m: &Match, template: &Name) -> Result<ScopePath, OutOfMemory>
+        requires { IsMatchWithin (length text.now) m.now }
+        ensures { IfOk result (λ names. names ≡ (language self.now).filled text.now m.now template.now) };
+
+    /// A room for the text of a group.
+    fn inner_room(&self, text: &[char]) -> Result<Self::Room, OutOfMemory>
+        ensures { (t : Tables) → IfOk result (Fits self.now t text.now) };
+
     /// The 32-bit metadata of a scope list.
     fn meta<S: States>(&self, table: &S, list: ScopeList) -> u32
         requires { list.0 < length (S.tables table.now).paths }
@@ -97,12 +111,22 @@ pub trait LineRules {
     ghost keeps: { (x : Self) (made : TableEntries) (t u : Tables) (text : List ℕ) (room : Self.Room) → GrowsWithin made t u → Fits x t text room → Fits x u text room };
 }
 
-/// What does not change in a run: the rules, and the text with its line break.
+/// What a line is tokenized with: the rules, and the text with its line break.
 #[derive(Drop)]
 pub struct Job<'a, R: LineRules> {
     pub alloc: Global,
     pub rules: &'a R,
     pub text: &'a [char],
+}
+
+/// What does not change in a run: the rules, the text, and how many times its groups may be tokenized again one
+/// within the other.
+#[derive(Drop)]
+pub struct Level<'a, R: LineRules> {
+    pub alloc: Global,
+    pub rules: &'a R,
+    pub text: &'a [char],
+    pub depth: u32,
 }
 
 /// What a line adds to: its pieces, and the budget that is left, in steps.

@@ -3,12 +3,12 @@
 //! The frames that this line opened lie in a vector, each with the position and the anchor of then. Below
 //! them is a state of the table, which holds what earlier lines opened. Its innermost frame is taken from it
 //! where the line needs it as the innermost one.
-ghost use Rattle.std.specs.Prelude.{◌≡◌, ◌∷◌, ◌&&◌, not, nat_lt, max, length, OnOk, IsTrue};
-ghost use Rattle.tm_defs.specs.Tables.{Tables, IsFrameOf};
-ghost use Rattle.tm_line_turns.specs.LineRun.{anchor_of, has, is_anchored, is_at, most_open, near, some_open};
+ghost use Rattle.std.specs.Prelude.{◌≡◌, ◌<◌, ◌∷◌, ◌&&◌, not, nat_lt, max, length, false, None, IfOk, OnOk, IsTrue};
+ghost use Rattle.tm_defs.specs.Tables.{Tables, IsFrameOf, path_at};
+ghost use Rattle.tm_line_turns.specs.LineRun.{anchor_of, framed, has, is_anchored, is_at, most_open, near, opened, some_open};
 ghost use Rattle.tm_line_parts.specs.Stacks.{IsStack, below_at, open_at, opens, stack_at};
 
-use tm_defs::frames::{Frame, StateId};
+use tm_defs::frames::{Frame, ScopeList, StateId};
 use tm_defs::memory::OutOfMemory;
 use tm_defs::tables::States;
 use tm_line_turns::found::Entry;
@@ -83,6 +83,51 @@ pub fn open(stack: &mut Stack, new: OpenFrame) -> Result<(), OutOfMemory>
     stack.below.push(stack.top)?;
     stack.top = new;
     Ok(())
+}
+
+/// An equal stack.
+fn copy(stack: &Stack) -> Result<Stack, OutOfMemory>
+    ensures { (t : Tables) → IsStack t stack.now → IfOk result (λ copy. IsStack t copy × (stack_at t copy ≡ stack_at t stack.now)) }
+{
+    Ok(Stack {
+        top: stack.top,
+        below: stack.below.clone()?,
+        base: stack.base,
+        deep: stack.deep,
+    })
+}
+
+/// A stack as this one, with the rule of a group on it, which starts here.
+pub fn inside(
+    stack: &Stack,
+    rule: u32,
+    names: ScopeList,
+    contents: ScopeList,
+    start: usize,
+) -> Result<Stack, OutOfMemory>
+    ensures { (t : Tables) → IsStack t stack.now → names.0 < length t.paths → contents.0 < length t.paths →
+        IfOk result (λ inner. IsStack t inner × (stack_at t inner ≡ opened (framed rule None (path_at t names) (path_at t contents) false) start None ∷ stack_at t stack.now)) }
+{
+    let mut inner = copy(stack)?;
+    let frame = Frame {
+        rule,
+        end: None,
+        names,
+        contents,
+        at_eol: false,
+    };
+    let entry = Entry {
+        at: start,
+        anchor: None,
+    };
+    open(
+        &mut inner,
+        OpenFrame {
+            frame,
+            entry: Some(entry),
+        },
+    )?;
+    Ok(inner)
 }
 
 /// Whether as many rules are open as may be.

@@ -1,3 +1,4 @@
+pub mod Depths
 pub mod Pieces
 pub mod Reach
 pub mod Runs

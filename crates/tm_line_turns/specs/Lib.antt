@@ -1,4 +1,6 @@
+pub mod Captures
 pub mod Example
+pub mod Groups
 pub mod Language
 pub mod Laws
 pub mod Line

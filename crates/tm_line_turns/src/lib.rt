@@ -20,10 +20,13 @@
 ghost use Rattle.std.specs.Prelude.{◌≡◌, ◌∷◌, [], None, false};
 ghost use Rattle.tm_paint.specs.Painted.{runs_of, scopes_at};
 ghost use Rattle.tm_line_turns.specs.Example.{example, start, root, keyword, group, depth, token};
+ghost use Rattle.tm_line_turns.specs.Language.{FindsInText, GroupsAddNothing, HasNoCaptures, IsRunAtEachDepth, Language};
 ghost use Rattle.tm_line_turns.specs.LineRun.{Grammar, earlier, line_run, opened, plain};
 ghost use Rattle.tm_line_turns.specs.Laws.{FindsWithin, IsLineRun};
 
+pub mod captures;
 pub mod found;
+pub mod groups;
 pub mod painter;
 mod threads;
 
@@ -41,4 +44,14 @@ pub fn worked_line()
         opened (plain 2 (root ∷ group ∷ []) false) 3 None ∷ earlier (plain 0 (root ∷ []) false) ∷ [] }
     ensures texts { (line_run example start).part.made.texts ≡ keyword ∷ group ∷ [] }
     ensures cost { (line_run example start).part.cost ≡ 30 }
+{}
+
+/// So has the text of a group, however deep it lies.
+pub fn one_outcome_at_each_depth()
+    ensures { (l : Language) → FindsInText l → IsRunAtEachDepth l }
+{}
+
+/// Where no rule says anything of a group, lines are those of a grammar in which groups add nothing.
+pub fn groups_add_nothing()
+    ensures { (l : Language) → HasNoCaptures l → GroupsAddNothing l }
 {}

@@ -6,12 +6,12 @@ use Rattle.tm_defs.specs.declared.frames.ScopeList.{ScopeList}
 use Rattle.tm_defs.specs.declared.frames.TextId.{TextId}
 use Rattle.tm_line_turns.specs.LineRun.{Part, end_made, makes, names_made}
 use Rattle.tm_line_parts.proofs.Adding.{first-fails, same-fault, same-part, then-any}
-use Rattle.tm_line_parts.proofs.run.inside_of.Goals as goal
+use Rattle.tm_line_parts.proofs.parts.inside_of.Goals as goal
 
 pub returns-in-Err : goal.returns-in-Err
 returns-in-Err g c o =
-    let l = g.R.LineRules.language c.args.job.now.rules.now in
-    let text = c.args.job.now.text.now in
+    let l = g.R.LineRules.language c.args.level.now.rules.now in
+    let text = c.args.level.now.text.now in
     let t = g.S.States.tables c.args.table.now in
     let u = g.S.States.tables c.push_content_names.new.table in
     let first : Part = makes (names_made (path_at t c.args.scopes) (l.content_names text c.args.rule c.args.m.now)) in
@@ -20,8 +20,8 @@ returns-in-Err g c o =
 
 pub returns-in-Ok-push_end : goal.returns-in-Ok-push_end
 returns-in-Ok-push_end g c o =
-    let l = g.R.LineRules.language c.args.job.now.rules.now in
-    let text = c.args.job.now.text.now in
+    let l = g.R.LineRules.language c.args.level.now.rules.now in
+    let text = c.args.level.now.text.now in
     let t = g.S.States.tables c.args.table.now in
     let u = g.S.States.tables c.push_content_names.new.table in
     let first : Part = makes (names_made (path_at t c.args.scopes) (l.content_names text c.args.rule c.args.m.now)) in
@@ -38,8 +38,8 @@ returns-in-Ok-push_end g c o =
 
 pub returns-in-Err-push_end : goal.returns-in-Err-push_end
 returns-in-Err-push_end g c o =
-    let l = g.R.LineRules.language c.args.job.now.rules.now in
-    let text = c.args.job.now.text.now in
+    let l = g.R.LineRules.language c.args.level.now.rules.now in
+    let text = c.args.level.now.text.now in
     let t = g.S.States.tables c.args.table.now in
     let u = g.S.States.tables c.push_content_names.new.table in
     let first : Part = makes (names_made (path_at t c.args.scopes) (l.content_names text c.args.rule c.args.m.now)) in
