@@ -37,6 +37,10 @@ same-part meta part t u old new x y h = record { pieces = h.pieces; grows = h.gr
 pub same-fault : {X Y : Type 0} (meta : List (List ℕ) → ℕ) (part : Part) (t u : Tables) (old new : Out) (e : LineFault) → Adds {X = X} meta part t u old new (Err e) → Adds {X = Y} meta part t u old new (Err e)
 same-fault meta part t u old new e h = record { pieces = tt; grows = h.grows; spends = h.spends; cause = h.cause }
 
+-- and it stays where memory is refused behind it
+pub refused-behind : {X Y : Type 0} (meta : List (List ℕ) → ℕ) (part : Part) (t u : Tables) (old new : Out) (x : X) → Adds meta part t u old new (Ok x) → Adds {X = Y} meta part t u old new (Err line.OutOfMemory)
+refused-behind meta part t u old new x h = record { pieces = tt; grows = h.grows; spends = h.spends; cause = tt }
+
 painted-append : (meta : List (List ℕ) → ℕ) (a b : List Piece) → painted meta (a ++ b) ≡ painted meta a ++ painted meta b
 painted-append meta [] b = refl
 painted-append meta (x ∷ xs) b = ap (λ l. record { end = x.end; meta = meta x.scopes } ∷ l) (painted-append meta xs b)

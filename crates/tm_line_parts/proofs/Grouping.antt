@@ -1,8 +1,8 @@
 -- A group that is tokenized, or is not.
 use Rattle.std.proofs.Common.{◌≡◌, ℕ, zero, suc, ◌+◌, ◌-◌, ◌<◌, ◌≤◌, ◌++◌, List, [], ◌∷◌, length, take, Bool, true, false, cond, Option, Some, None, refl, ap, sym, ◌∙◌, subst, arith}
 use Rattle.std.specs.Prelude.{Result, Ok, Err, OnOk, ◌&&◌, ◌==◌, nat_lt}
-use Rattle.tm_defs.specs.declared.frames.ScopeList.{ScopeList}
 use Rattle.tm_defs.specs.declared.tokenizer.LineFault.{LineFault}
+use Rattle.tm_defs.specs.declared.tokenizer.LineFault.TheVariants as line
 use Rattle.tm_defs.specs.Tables.{Tables, path_at}
 use Rattle.tm_line_turns.specs.declared.captures.GroupRule.{GroupRule}
 use Rattle.tm_line_turns.specs.LineRun.{Open, Place, Part, Grammar, joined, most_open, line_run}
@@ -11,18 +11,32 @@ use Rattle.tm_line_turns.specs.Language.{Language, grammar_at, inner_at}
 use Rattle.tm_line_turns.specs.Captures as caps
 use Rattle.tm_line_parts.specs.declared.layers.Layer.{Layer}
 use Rattle.tm_line_parts.specs.declared.rules.Out.{Out}
+use Rattle.tm_line_parts.specs.declared.stack.Way.{Way}
 use Rattle.tm_line_parts.specs.Adds.{Adds}
 use Rattle.tm_line_parts.specs.Layers.{Keeps, Takes}
 use Rattle.tm_line_parts.specs.Layers.{AreLayers, layers_at}
-use Rattle.tm_line_parts.proofs.Adding.{then-any}
+use Rattle.tm_line_parts.proofs.Adding.{first-fails, joined-assoc, refused, then-any}
 use Rattle.tm_line_parts.proofs.StacksGrown.{layers-known, layers-same}
 
--- the names of a group were pushed, and its content names, and then its text was run
-pub group-done : {X : Type 0} (meta : List (List ℕ) → ℕ) (named inside : Part) (g : Grammar) (p q : Place) (t u v w : Tables) (old new : Out) (id inner : ScopeList) (r : Result X LineFault) → p ≡ q →
-    Adds meta named t u old old (Ok id) → Adds meta inside u v old old (Ok inner) → Adds meta (line_run g p).part v w old new r → Adds meta (joined named (joined inside (line_run g q).part)) t w old new r
-group-done meta named inside g p q t u v w old new id inner r is h i k =
-    let P : Place → Type 0 = λ x. Adds meta (line_run g x).part v w old new r in
-    then-any meta named (joined inside (line_run g q).part) t u w old old new id r h (then-any meta inside (line_run g q).part u v w old old new inner r i (subst P is k))
+-- the names of a group and its content names were pushed, and then its text was run, or was not
+module _ (meta : List (List ℕ) → ℕ) (named inside : Part) (g : Grammar) (q : Place) (t u : Tables) (o : Out) where
+  abbrev whole : Part
+  whole = joined named (joined inside (line_run g q).part)
+
+  in-order : {X : Type 0} (v : Tables) (new : Out) (r : Result X LineFault) → Adds meta (joined (joined named inside) (line_run g q).part) t v o new r → Adds meta whole t v o new r
+  in-order v new r h = let P : Part → Type 0 = λ p. Adds meta p t v o new r in subst P (joined-assoc named inside (line_run g q).part) h
+
+  pub group-unnamed : {X : Type 0} (e : LineFault) → Adds {X = Way} meta (joined named inside) t u o o (Err e) → Adds {X = X} meta whole t u o o (Err e)
+  group-unnamed e h = in-order u o (Err e) (first-fails meta (joined named inside) (line_run g q).part t u o o e h)
+
+  module _ (way : Way) (h : Adds meta (joined named inside) t u o o (Ok way)) where
+    pub group-refused : {X : Type 0} → Adds {X = X} meta whole t u o o (Err line.OutOfMemory)
+    group-refused = in-order u o (Err line.OutOfMemory) (then-any meta (joined named inside) (line_run g q).part t u u o o o way (Err line.OutOfMemory) h (refused meta (line_run g q).part u o o refl))
+
+    pub group-done : {X : Type 0} (p : Place) (v : Tables) (new : Out) (r : Result X LineFault) → p ≡ q → Adds meta (line_run g p).part u v o new r → Adds meta whole t v o new r
+    group-done p v new r is k =
+        let P : Place → Type 0 = λ x. Adds meta (line_run g x).part u v o new r in
+        in-order v new r (then-any meta (joined named inside) (line_run g q).part t u v o o new way r h (subst P is k))
 
 module _ (l : Language) (filled : List ℕ → List (List ℕ)) (text : List ℕ) (first : Bool) (stack : List Open) (base : List (List ℕ)) (ls : List caps.Layer) (c : GroupRule) (start end : ℕ) where
   abbrev taken : ℕ → Option ℕ → Took

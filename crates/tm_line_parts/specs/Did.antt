@@ -5,7 +5,7 @@ use Rattle.tm_defs.specs.declared.frames.ScopeList.{ScopeList}
 use Rattle.tm_defs.specs.declared.frames.TextId.{TextId}
 use Rattle.tm_defs.specs.Tables.{IsOptionalText, Tables, text_at}
 use Rattle.tm_line_turns.specs.LineRun as line
-use Rattle.tm_line_turns.specs.LineRun.{Turn, Stops, GoesOn, Outcome, all_of, end_made, makes, names_made}
+use Rattle.tm_line_turns.specs.LineRun.{Outcome, Part, Place, Turn, Stops, GoesOn, all_of, end_made, makes, names_made}
 use Rattle.tm_line_parts.specs.declared.rules.Out.{Out}
 use Rattle.tm_line_parts.specs.declared.stops.Next.{Next}
 use Rattle.tm_line_parts.specs.declared.stops.Next.TheVariants as next
@@ -36,3 +36,9 @@ pub record Gives (meta : List (List ℕ) → ℕ) (scopes content_names : List (
   pub contents : IfOk result (λ given. slice_get u.paths given.0.0 ≡ Some (scopes ++ content_names))
   pub known : IfOk result (λ given. IsOptionalText u given.1)
   pub end : IfOk result (λ given. option_map (text_at u) given.1 ≡ end_text)
+
+-- the text of a group was entered: what that adds was added, and the way stands at its place
+pub record Enters (meta : List (List ℕ) → ℕ) (part : Part) (place : Place) (t u : Tables) (o : Out) (result : Result Way LineFault) : Type 0 where
+  pub adds : Adds meta part t u o o result
+  pub stack : IfOk result (λ way. IsStack u way.stack)
+  pub is : IfOk result (λ way. place_at u way ≡ place)

@@ -16,13 +16,13 @@ ghost use Rattle.tm_line_parts.specs.Did.{Does, Ran};
 ghost use Rattle.tm_line_parts.specs.Layers.{AreLayers, Steps, Takes, layers_at};
 ghost use Rattle.tm_line_parts.specs.Stacks.{IsStack, place_at, stack_at};
 
-use crate::groups::{Cover, Over, Span, is_first, span_of};
+use crate::groups::{Cover, Over, Span, inner_way, span_of};
 use crate::layers::{Layer, close, finish, innermost, name};
-use crate::parts::{inside_of, paint, push_names, push_optional};
+use crate::parts::{inside_of, paint, push_names};
 use crate::rules::{Level, LineRules, Out, Question};
 use crate::stack::{
-    OpenFrame, Stack, Way, advance, anchor_of, has_below, inside, is_anchored, is_full,
-    is_stuck_begin, is_stuck_end, leave, open,
+    OpenFrame, Stack, Way, advance, anchor_of, has_below, is_anchored, is_full, is_stuck_begin,
+    is_stuck_end, leave, open,
 };
 use crate::stops::{Next, rests, stops, stops_popped};
 use tm_defs::frames::Frame;
@@ -447,22 +447,9 @@ fn tokenize<S: States, R: LineRules>(
         Adds l.meta (again (l.filled text m) (path_at t over.now.cover.inner) (tokenized (grammar_at l (level.now.depth - 1)) text over.now.cover.first (stack_at t over.now.stack.now)) rule group.now span.start span.end)
         t (S.tables table.new) out.old out.new result }
 {
-    let names = match push_optional(level, table, over.cover.inner, &group.name, over.m) {
-        Ok(names) => names,
+    let mut way = match inner_way(level, table, over, group, rule, span.start) {
+        Ok(way) => way,
         Err(fault) => return Err(fault),
-    };
-    let contents = match push_optional(level, table, names, &group.content_name, over.m) {
-        Ok(contents) => contents,
-        Err(fault) => return Err(fault),
-    };
-    let Ok(stack) = inside(over.stack, rule, names, contents, span.start) else {
-        return Err(LineFault::OutOfMemory);
-    };
-    let mut way = Way {
-        stack,
-        at: span.start,
-        anchor: None,
-        first: is_first(over.cover.first, span.start),
     };
     let inner = Level {
         alloc: level.alloc,

@@ -16,10 +16,10 @@ use Rattle.tm_line_parts.specs.declared.stack.Stack.{Stack}
 use Rattle.tm_line_parts.specs.declared.stack.Way.{Way}
 use Rattle.tm_line_parts.specs.Layers.{AreLayers, Takes, layers_at}
 use Rattle.tm_line_parts.specs.Stacks.{IsStack, below_at, place_at, stack_at}
-use Rattle.tm_line_parts.proofs.Adding.{IsBegun, begins, first-fails, next, refused, then-any}
+use Rattle.tm_line_parts.proofs.Adding.{IsBegun, begins, next}
 use Rattle.tm_line_parts.proofs.Cases.{covered-as, ended-fails, ended-goes, ended-stuck, entered-goes, entered-refused, entered-stuck, entered-uncovered, entered-ungiven, entered-unnamed, matched-goes, matched-stuck, matched-uncovered, matched-unnamed, place-is}
 use Rattle.tm_line_parts.proofs.Entering.{entered-stack, given-stack}
-use Rattle.tm_line_parts.proofs.Grouping.{deep-is, group-done, kept-takes, no-room, no-rule, none-deeper}
+use Rattle.tm_line_parts.proofs.Grouping.{deep-is, group-done, group-refused, group-unnamed, kept-takes, no-room, no-rule, none-deeper}
 use Rattle.tm_line_parts.proofs.LayerSteps.{all-take}
 use Rattle.tm_line_parts.proofs.Popping.{of_stack, rest_of}
 use Rattle.tm_line_parts.proofs.StacksGrown.{stack-known, stack-same, below-same}
@@ -688,109 +688,56 @@ take-returns-in-Err-apply g t c =
     let mean = c.innermost-scopes.ensures.is ∙ ap (λ l. innermost base (layers_at t₀ l)) c.as_slice-2.ensures.value ∙ ap (innermost base) kept_is in
     step-unapplied s.meta filled base m inner ls c.args.group.now c.in-Some.start c.in-Some.end group is t₀ c.args.out.now (g.S.States.tables c.apply.new.table) c.close.new.out c.paint.new.out c.apply.new.out c.in-Ok.kept c.in_default-paint.field-0 c.apply.new.layers.items c.in-Err-apply.fault closing (rw mean at c.in_default-paint.ensures) (rw kept_is at c.in-Err-apply.ensures)
 
-pub tokenize-push_optional-requires-2-clause-list : goal.tokenize-push_optional-requires-2-clause-list
-tokenize-push_optional-requires-2-clause-list g t c = slice_get_within (g.S.States.tables c.push_optional.new.table).paths c.in-Ok.names.0 _ c.in-Ok.ensures.ok
-
 pub tokenize-returns-in-Err : goal.tokenize-returns-in-Err
 tokenize-returns-in-Err g t c =
     let s = g.R.LineRules.language c.args.level.now.rules.now in
     let t₀ = g.S.States.tables c.args.table.now in
-    let filled = s.filled c.args.level.now.text.now c.args.over.now.m.now in
-    let named = makes (names_made (path_at t₀ c.args.over.now.cover.inner) (pushed filled c.args.group.now.name)) in
-    first-fails s.meta named _ t₀ (g.S.States.tables c.push_optional.new.table) c.args.out.now c.args.out.now c.in-Err.fault (c.in-Err.ensures.adds s.meta c.args.out.now)
-
-pub tokenize-returns-in-Err-push_optional : goal.tokenize-returns-in-Err-push_optional
-tokenize-returns-in-Err-push_optional g t c =
-    let s = g.R.LineRules.language c.args.level.now.rules.now in
-    let t₀ = g.S.States.tables c.args.table.now in
-    let u = g.S.States.tables c.push_optional.new.table in
-    let v = g.S.States.tables c.push_optional-2.new.table in
-    let o = c.args.out.now in
-    let filled = s.filled c.args.level.now.text.now c.args.over.now.m.now in
-    let base = path_at t₀ c.args.over.now.cover.inner in
-    let names = base ++ pushed filled c.args.group.now.name in
-    let means : path_at u c.in-Ok.names ≡ names = path_at-is u c.in-Ok.names names c.in-Ok.ensures.ok in
-    let named = makes (names_made base (pushed filled c.args.group.now.name)) in
-    let inside = makes (names_made names (pushed filled c.args.group.now.content_name)) in
-    then-any s.meta named _ t₀ u v o o o c.in-Ok.names _ (c.in-Ok.ensures.adds s.meta o) (first-fails s.meta inside _ u v o o c.in-Err-push_optional.fault (rw means at c.in-Err-push_optional.ensures.adds s.meta o))
-
-pub tokenize-returns-in_default : goal.tokenize-returns-in_default
-tokenize-returns-in_default g t c =
-    let s = g.R.LineRules.language c.args.level.now.rules.now in
-    let t₀ = g.S.States.tables c.args.table.now in
-    let u = g.S.States.tables c.push_optional.new.table in
-    let v = g.S.States.tables c.push_optional-2.new.table in
-    let o = c.args.out.now in
-    let filled = s.filled c.args.level.now.text.now c.args.over.now.m.now in
-    let base = path_at t₀ c.args.over.now.cover.inner in
-    let names = base ++ pushed filled c.args.group.now.name in
-    let means : path_at u c.in-Ok.names ≡ names = path_at-is u c.in-Ok.names names c.in-Ok.ensures.ok in
-    let named = makes (names_made base (pushed filled c.args.group.now.name)) in
-    let inside = makes (names_made names (pushed filled c.args.group.now.content_name)) in
-    then-any s.meta named _ t₀ u v o o o c.in-Ok.names _ (c.in-Ok.ensures.adds s.meta o) (then-any s.meta inside _ u v v o o o c.in-Ok-push_optional.contents _ (rw means at c.in-Ok-push_optional.ensures.adds s.meta o) (refused s.meta _ v o o refl))
-
-pub tokenize-returns-in_default-inner_room : goal.tokenize-returns-in_default-inner_room
-tokenize-returns-in_default-inner_room g t c =
-    let s = g.R.LineRules.language c.args.level.now.rules.now in
-    let t₀ = g.S.States.tables c.args.table.now in
-    let u = g.S.States.tables c.push_optional.new.table in
-    let v = g.S.States.tables c.push_optional-2.new.table in
-    let o = c.args.out.now in
-    let filled = s.filled c.args.level.now.text.now c.args.over.now.m.now in
-    let base = path_at t₀ c.args.over.now.cover.inner in
-    let names = base ++ pushed filled c.args.group.now.name in
-    let means : path_at u c.in-Ok.names ≡ names = path_at-is u c.in-Ok.names names c.in-Ok.ensures.ok in
-    let named = makes (names_made base (pushed filled c.args.group.now.name)) in
-    let inside = makes (names_made names (pushed filled c.args.group.now.content_name)) in
-    then-any s.meta named _ t₀ u v o o o c.in-Ok.names _ (c.in-Ok.ensures.adds s.meta o) (then-any s.meta inside _ u v v o o o c.in-Ok-push_optional.contents _ (rw means at c.in-Ok-push_optional.ensures.adds s.meta o) (refused s.meta _ v o o refl))
-
-pub tokenize-run-requires : goal.tokenize-run-requires
-tokenize-run-requires g t c κs within =
-    let s = g.R.LineRules.language c.args.level.now.rules.now in
-    let t₀ = g.S.States.tables c.args.table.now in
-    let u = g.S.States.tables c.push_optional.new.table in
-    let v = g.S.States.tables c.push_optional-2.new.table in
-    let grown = (c.in-Ok.ensures.adds s.meta c.args.out.now).grows in
-    let grew = (c.in-Ok-push_optional.ensures.adds s.meta c.args.out.now).grows in
-    let k = slice_get_within u.paths c.in-Ok.names.0 _ c.in-Ok.ensures.ok in
-    let more = paths-longer _ u v grew in
-    let known = stack-known _ u v grew c.args.over.now.stack.now (stack-known _ t₀ u grown c.args.over.now.stack.now c.requires.stack) in
-    let inner = c.in-Ok-inside.ensures v known (omega (arith, k, more)) (slice_get_within v.paths c.in-Ok-push_optional.contents.0 _ c.in-Ok-push_optional.ensures.ok) in
-    let cut = length-take-le c.args.span.end c.args.level.now.text.now c.requires.end in
-    (omega (arith, c.decreases, c.requires.deep), (within.0, (within.1.0, (within.1.1, (inner.0, (omega (arith, c.requires.start, c.requires.end, cut), (omega (arith, c.requires.end, c.requires.small, cut), c.in-Ok-inner_room.ensures v)))))))
-
-pub tokenize-returns : goal.tokenize-returns
-tokenize-returns g t c =
-    let s = g.R.LineRules.language c.args.level.now.rules.now in
-    let t₀ = g.S.States.tables c.args.table.now in
-    let u = g.S.States.tables c.push_optional.new.table in
-    let v = g.S.States.tables c.push_optional-2.new.table in
+    let u = g.S.States.tables c.inner_way.new.table in
     let o = c.args.out.now in
     let filled = s.filled c.args.level.now.text.now c.args.over.now.m.now in
     let base = path_at t₀ c.args.over.now.cover.inner in
     let names = base ++ pushed filled c.args.group.now.name in
     let contents = names ++ pushed filled c.args.group.now.content_name in
-    let means : path_at u c.in-Ok.names ≡ names = path_at-is u c.in-Ok.names names c.in-Ok.ensures.ok in
     let named = makes (names_made base (pushed filled c.args.group.now.name)) in
     let inside = makes (names_made names (pushed filled c.args.group.now.content_name)) in
-    let first = c.in-Ok.ensures.adds s.meta o in
-    let second = rw means at c.in-Ok-push_optional.ensures.adds s.meta o in
-    let k = slice_get_within u.paths c.in-Ok.names.0 _ c.in-Ok.ensures.ok in
-    let more = paths-longer _ u v second.grows in
-    let known = stack-known _ t₀ u first.grows c.args.over.now.stack.now c.requires.stack in
-    let at = rw means at c.in-Ok-push_optional.ensures.ok in
-    let inner = c.in-Ok-inside.ensures v (stack-known _ u v second.grows c.args.over.now.stack.now known) (omega (arith, k, more)) (slice_get_within v.paths c.in-Ok-push_optional.contents.0 _ at) in
-    let stack = stack_at t₀ c.args.over.now.stack.now in
-    let rule = c.args.rule in
-    let start = c.args.span.start in
-    let names_v : path_at v c.in-Ok.names ≡ names = path_at-grown _ u v c.in-Ok.names k second.grows ∙ means in
-    let contents_v : path_at v c.in-Ok-push_optional.contents ≡ contents = path_at-is v c.in-Ok-push_optional.contents contents at in
-    let top : Open = opened (framed rule None names contents false) start None in
-    let all : stack_at v c.in-Ok-inside.stack ≡ top ∷ stack =
-    inner.1
-    ∙ ap (λ p. opened (framed rule None p (path_at v c.in-Ok-push_optional.contents) false) start None ∷ stack_at v c.args.over.now.stack.now) names_v
-    ∙ ap (λ p. opened (framed rule None names p false) start None ∷ stack_at v c.args.over.now.stack.now) contents_v
-    ∙ ap (λ l. top ∷ l) (stack-same _ u v second.grows c.args.over.now.stack.now known ∙ stack-same _ t₀ u first.grows c.args.over.now.stack.now c.requires.stack) in
-    let way : Way = record { stack = c.in-Ok-inside.stack; at = start; anchor = None; first = c.is_first.result } in
-    group-done s.meta named inside (grammar_at s (c.args.level.now.depth - 1) (take c.args.span.end c.args.level.now.text.now)) (place_at v way) (group_place c.args.over.now.cover.first stack rule names contents start) t₀ u v (g.S.States.tables c.run.new.table) o c.run.new.out c.in-Ok.names c.in-Ok-push_optional.contents c.run.result
-    (place-is v way top (top ∷ stack) start None (c.args.over.now.cover.first && (start == 0)) all refl refl c.is_first.ensures) first second c.run.ensures.ran.adds
+    let grammar = grammar_at s (c.args.level.now.depth - 1) (take c.args.span.end c.args.level.now.text.now) in
+    let place = group_place c.args.over.now.cover.first (stack_at t₀ c.args.over.now.stack.now) c.args.rule names contents c.args.span.start in
+    group-unnamed s.meta named inside grammar place t₀ u o c.in-Err.fault (c.in-Err.ensures.enters o).adds
+
+pub tokenize-returns-in_default : goal.tokenize-returns-in_default
+tokenize-returns-in_default g t c =
+    let s = g.R.LineRules.language c.args.level.now.rules.now in
+    let t₀ = g.S.States.tables c.args.table.now in
+    let u = g.S.States.tables c.inner_way.new.table in
+    let o = c.args.out.now in
+    let filled = s.filled c.args.level.now.text.now c.args.over.now.m.now in
+    let base = path_at t₀ c.args.over.now.cover.inner in
+    let names = base ++ pushed filled c.args.group.now.name in
+    let contents = names ++ pushed filled c.args.group.now.content_name in
+    let named = makes (names_made base (pushed filled c.args.group.now.name)) in
+    let inside = makes (names_made names (pushed filled c.args.group.now.content_name)) in
+    let grammar = grammar_at s (c.args.level.now.depth - 1) (take c.args.span.end c.args.level.now.text.now) in
+    let place = group_place c.args.over.now.cover.first (stack_at t₀ c.args.over.now.stack.now) c.args.rule names contents c.args.span.start in
+    group-refused s.meta named inside grammar place t₀ u o c.in-Ok.way (c.in-Ok.ensures.enters o).adds
+
+pub tokenize-run-requires : goal.tokenize-run-requires
+tokenize-run-requires g t c κs within =
+    let cut = length-take-le c.args.span.end c.args.level.now.text.now c.requires.end in
+    let at = c.in-Ok.ensures.at in
+    (omega (arith, c.decreases, c.requires.deep), (within.0, (within.1.0, (within.1.1, ((c.in-Ok.ensures.enters c.args.out.now).stack, (omega (arith, at, c.requires.start, c.requires.end, cut), (omega (arith, c.requires.end, c.requires.small, cut), c.in-Ok-inner_room.ensures (g.S.States.tables c.inner_way.new.table))))))))
+
+pub tokenize-returns : goal.tokenize-returns
+tokenize-returns g t c =
+    let s = g.R.LineRules.language c.args.level.now.rules.now in
+    let t₀ = g.S.States.tables c.args.table.now in
+    let u = g.S.States.tables c.inner_way.new.table in
+    let o = c.args.out.now in
+    let filled = s.filled c.args.level.now.text.now c.args.over.now.m.now in
+    let base = path_at t₀ c.args.over.now.cover.inner in
+    let names = base ++ pushed filled c.args.group.now.name in
+    let contents = names ++ pushed filled c.args.group.now.content_name in
+    let named = makes (names_made base (pushed filled c.args.group.now.name)) in
+    let inside = makes (names_made names (pushed filled c.args.group.now.content_name)) in
+    let grammar = grammar_at s (c.args.level.now.depth - 1) (take c.args.span.end c.args.level.now.text.now) in
+    let place = group_place c.args.over.now.cover.first (stack_at t₀ c.args.over.now.stack.now) c.args.rule names contents c.args.span.start in
+    group-done s.meta named inside grammar place t₀ u o c.in-Ok.way (c.in-Ok.ensures.enters o).adds (place_at u c.in-Ok.way) (g.S.States.tables c.run.new.table) c.run.new.out c.run.result (c.in-Ok.ensures.enters o).is c.run.ensures.ran.adds
