@@ -1,9 +1,9 @@
 -- A group that is tokenized, or is not.
-use Rattle.std.proofs.Common.{◌≡◌, ℕ, zero, suc, ◌+◌, ◌-◌, ◌<◌, ◌≤◌, ◌++◌, List, [], ◌∷◌, length, take, Bool, true, false, cond, Option, Some, None, refl, ap, sym, ◌∙◌, subst, arith}
-use Rattle.std.specs.Prelude.{Result, Ok, Err, OnOk, ◌&&◌, ◌==◌, nat_lt}
+use Rattle.std.proofs.Common.{◌≡◌, ℕ, zero, suc, ◌-◌, ◌<◌, List, length, Bool, true, false, cond, Option, Some, None, refl, ap, sym, ◌∙◌, subst, arith}
+use Rattle.std.specs.Prelude.{Result, Ok, Err, OnOk, nat_lt}
 use Rattle.tm_defs.specs.declared.tokenizer.LineFault.{LineFault}
 use Rattle.tm_defs.specs.declared.tokenizer.LineFault.TheVariants as line
-use Rattle.tm_defs.specs.Tables.{Tables, path_at}
+use Rattle.tm_defs.specs.Tables.{Tables}
 use Rattle.tm_line_turns.specs.declared.captures.GroupRule.{GroupRule}
 use Rattle.tm_line_turns.specs.LineRun.{Open, Place, Part, Grammar, joined, most_open, line_run}
 use Rattle.tm_line_turns.specs.Captures.{Inner, Took, again, applied, named, tokenized}

@@ -1,5 +1,5 @@
 -- A group with a name is a layer more.
-use Rattle.std.proofs.Common.{◌≡◌, ℕ, ◌<◌, ◌++◌, List, [], ◌∷◌, length, Option, Some, refl, ap, sym, ◌∙◌, subst}
+use Rattle.std.proofs.Common.{◌≡◌, ℕ, ◌<◌, ◌++◌, List, [], ◌∷◌, length, Some, ap, sym, ◌∙◌, subst}
 use Rattle.std.specs.Prelude.{slice_get, Result, Ok, Err}
 use Rattle.std.proofs.lemmas.Option.{slice_get_within}
 use Rattle.tm_defs.specs.declared.frames.ScopeList.{ScopeList}
@@ -7,7 +7,7 @@ use Rattle.tm_defs.specs.declared.tokenizer.LineFault.{LineFault}
 use Rattle.tm_defs.specs.declared.tokenizer.LineFault.TheVariants as line
 use Rattle.tm_defs.specs.Tables.{Tables, path_at}
 use Rattle.tm_defs.proofs.Chains.{path_at-is}
-use Rattle.tm_line_turns.specs.LineRun.{Part, makes, names_made}
+use Rattle.tm_line_turns.specs.LineRun.{makes, names_made}
 use Rattle.tm_line_turns.specs.declared.captures.GroupName.{GroupName}
 use Rattle.tm_line_turns.specs.Captures as caps
 use Rattle.tm_line_turns.specs.Captures.{innermost, named, pushed}
@@ -15,7 +15,7 @@ use Rattle.tm_line_parts.specs.declared.layers.Layer.{Layer}
 use Rattle.tm_line_parts.specs.declared.rules.Out.{Out}
 use Rattle.tm_line_parts.specs.Adds.{Adds}
 use Rattle.tm_line_parts.specs.Layers.{Takes}
-use Rattle.tm_line_parts.specs.Layers.{AreLayers, layer_at, layers_at}
+use Rattle.tm_line_parts.specs.Layers.{AreLayers, layers_at}
 use Rattle.tm_line_parts.proofs.LayerSteps.{all-push, layers-push}
 use Rattle.tm_line_parts.proofs.StacksGrown.{layers-known, layers-same}
 

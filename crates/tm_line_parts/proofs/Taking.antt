@@ -1,6 +1,6 @@
 -- A step of the walk over the groups.
-use Rattle.std.proofs.Common.{◌≡◌, ℕ, zero, suc, ◌<◌, ◌≤◌, List, [], ◌∷◌, Bool, true, false, cond, Option, Some, None, refl, ap, sym, ◌∙◌, subst, arith, eqb-true}
-use Rattle.std.specs.Prelude.{Result, Ok, Err, ◌==◌, nat_lt, slice_get}
+use Rattle.std.proofs.Common.{◌≡◌, ℕ, ◌<◌, List, Bool, true, false, cond, Option, Some, None, refl, ap, sym, ◌∙◌, subst, arith, eqb-true}
+use Rattle.std.specs.Prelude.{Ok, Err, ◌==◌, nat_lt, slice_get}
 use Rattle.std.proofs.lemmas.Bool.Decides.{nat_tests}
 use Rattle.tm_defs.specs.declared.tokenizer.LineFault.{LineFault}
 use Rattle.tm_defs.specs.Tables.{Tables}
@@ -13,7 +13,6 @@ use Rattle.tm_line_parts.specs.declared.layers.Layer.{Layer}
 use Rattle.tm_line_parts.specs.declared.rules.Out.{Out}
 use Rattle.tm_line_parts.specs.Adds.{Adds}
 use Rattle.tm_line_parts.specs.Layers.{Steps, Takes}
-use Rattle.tm_line_parts.specs.Layers.{layers_at}
 use Rattle.tm_line_parts.proofs.Adding.{first-fails, same-fault, same-part, then-any}
 
 -- a set group is one of the list

@@ -1,5 +1,5 @@
 -- The walk over the groups, and what is left of it.
-use Rattle.std.proofs.Common.{◌≡◌, ℕ, ◌+◌, ◌<◌, ◌≤◌, ◌++◌, List, [], ◌∷◌, length, drop, Bool, true, false, refl, ap, sym, ◌∙◌, subst, arith, get_or, add-one, drop-cons}
+use Rattle.std.proofs.Common.{◌≡◌, ℕ, ◌+◌, ◌<◌, ◌≤◌, ◌++◌, List, [], ◌∷◌, length, drop, true, false, ap, sym, ◌∙◌, subst, arith, get_or, add-one, drop-cons}
 use Rattle.std.specs.Prelude.{Result, Ok, Err, Option}
 use Rattle.std.proofs.lemmas.List.{append-nil, drop_all}
 use Rattle.tm_defs.specs.declared.tokenizer.LineFault.{LineFault}
@@ -16,7 +16,7 @@ use Rattle.tm_line_parts.specs.declared.rules.Out.{Out}
 use Rattle.tm_line_parts.specs.Adds.{Adds}
 use Rattle.tm_line_parts.specs.Layers.{Steps}
 use Rattle.tm_line_parts.specs.Layers.{AreLayers, layers_at}
-use Rattle.tm_line_parts.proofs.Adding.{IsBegun, next, fails, ends-any, reassoc, cause-more, among-trans}
+use Rattle.tm_line_parts.proofs.Adding.{IsBegun, next, fails, ends-any, reassoc, cause-more}
 
 module _ (meta : List (List ℕ) → ℕ) (all tail : Part) (t u v : Tables) (old now new : Out) where
   -- what adds nothing changes nothing of what is left

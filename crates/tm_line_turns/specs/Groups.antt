@@ -1,7 +1,6 @@
 -- Worked lines whose groups have names, or are tokenized again. Rules find by their number and the position here, and
 -- the steps of each search are 10.
 use Rattle.std.specs.Prelude.{ℕ, Bool, false, ◌&&◌, ◌==◌, List, [], ◌∷◌, Option, Some, None, if◌then◌else◌}
-use Rattle.tm_defs.specs.declared.frames.FrameData.{FrameData}
 use Rattle.tm_defs.specs.declared.tokens.Token.{Token}
 use Rattle.tm_paint.specs.Painted.{scopes_at}
 use Rattle.tm_line_turns.specs.declared.captures.GroupName.TheVariants.{Fixed}

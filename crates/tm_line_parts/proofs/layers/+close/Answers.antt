@@ -1,5 +1,4 @@
-use Rattle.std.proofs.Common.{length, sym, take, ◌∙◌}
-use Rattle.std.specs.Prelude.{Result, Ok, Err, IfOk}
+use Rattle.std.proofs.Common.{sym, ◌∙◌}
 use Rattle.tm_line_parts.proofs.LayerSteps.{close-goes, goes-kept-any}
 use Rattle.tm_line_parts.proofs.layers.+close.Goals as goal
 

@@ -1,5 +1,5 @@
-use Rattle.std.proofs.Common.{◌≡◌, ◌<◌, ◌-◌, ◌++◌, Bool, true, false, not, [], ◌∷◌, length, take, drop, None, Some, refl, ap, sym, ◌∙◌, subst, arith}
-use Rattle.std.specs.Prelude.{Ok, Err, ◌&&◌, ◌==◌}
+use Rattle.std.proofs.Common.{◌≡◌, ◌<◌, ◌-◌, ◌++◌, Bool, true, false, not, [], ◌∷◌, length, take, Some, refl, ap, sym, ◌∙◌, subst, arith}
+use Rattle.std.specs.Prelude.{Ok, Err, ◌==◌}
 use Rattle.std.proofs.lemmas.List.{length-take-le}
 use Rattle.std.proofs.lemmas.Option.{slice_get_within}
 use Rattle.tm_defs.specs.Tables.{path_at}
@@ -7,17 +7,16 @@ use Rattle.tm_defs.proofs.Chains.{path_at-grown, path_at-is, paths-longer}
 use Rattle.tm_line_turns.specs.declared.found.Whose.TheVariants.{AtBegin, AtMatch}
 use Rattle.tm_line_turns.specs.Captures.{Took, again, capture_productions, group_of, group_place, innermost, pushed, tokenized}
 use Rattle.tm_line_turns.specs.Language.{grammar_at, inner_at}
-use Rattle.tm_line_turns.specs.LineRun.{Open, Part, covered, framed, joined, line_run, makes, names_made, opened, paint, plain, popped, popped_contents, some_open, turn}
+use Rattle.tm_line_turns.specs.LineRun.{Part, covered, joined, line_run, makes, names_made, opened, paint, plain, popped, popped_contents, some_open, turn}
 use Rattle.tm_line_turns.proofs.Turns.{line_run-turn, turn-falls, turn-within}
 use Rattle.tm_line_parts.specs.declared.layers.Layer.{Layer}
 use Rattle.tm_line_parts.specs.declared.rules.Out.{Out}
 use Rattle.tm_line_parts.specs.declared.stack.OpenFrame.{OpenFrame}
 use Rattle.tm_line_parts.specs.declared.stack.Stack.{Stack}
-use Rattle.tm_line_parts.specs.declared.stack.Way.{Way}
 use Rattle.tm_line_parts.specs.Layers.{AreLayers, Takes, layers_at}
 use Rattle.tm_line_parts.specs.Stacks.{IsStack, below_at, place_at, stack_at}
 use Rattle.tm_line_parts.proofs.Adding.{IsBegun, begins, next}
-use Rattle.tm_line_parts.proofs.Cases.{covered-as, ended-fails, ended-goes, ended-stuck, entered-goes, entered-refused, entered-stuck, entered-uncovered, entered-ungiven, entered-unnamed, matched-goes, matched-stuck, matched-uncovered, matched-unnamed, place-is}
+use Rattle.tm_line_parts.proofs.Cases.{covered-as, ended-fails, ended-goes, ended-stuck, entered-goes, entered-refused, entered-stuck, entered-uncovered, entered-ungiven, entered-unnamed, matched-goes, matched-stuck, matched-uncovered, matched-unnamed}
 use Rattle.tm_line_parts.proofs.Entering.{entered-stack, given-stack}
 use Rattle.tm_line_parts.proofs.Grouping.{deep-is, group-done, group-refused, group-unnamed, kept-takes, no-room, no-rule, none-deeper}
 use Rattle.tm_line_parts.proofs.LayerSteps.{all-take}
