@@ -3,10 +3,11 @@
 //! Colours and fonts come with themes, and this tokenizer has none: every token has language 1, font
 //! style 0, foreground 1 and background 2. The metadata is computed when a piece is painted, so that
 //! nothing beside the table grows with it.
-ghost use Rattle.std.specs.Prelude.{◌≡◌, ◌<◌, ◌≤◌, ◌++◌, ◌∷◌, [], length, IfOk};
+ghost use Rattle.std.specs.Prelude.{◌≡◌, ◌<◌, ◌≤◌, ◌-◌, ◌==◌, ◌&&◌, ◌++◌, ◌∷◌, [], length, not, IfOk};
 ghost use Rattle.tm_defs.specs.Tables.{path_at};
 ghost use Rattle.tm_meta.specs.Metadata.{in_word, stands_alone, type_at, decided_type, packed, metadata_of};
 
+use crate::words::may_begin;
 use std::alloc::AllocError;
 use tm_defs::frames::ScopeList;
 use tm_defs::tables::States;
@@ -48,7 +49,7 @@ fn alone(word: &[char], scope: &[char], place: usize) -> bool
     requires { place ≤ length scope.now }
     ensures { result ≡ stands_alone word.now scope.now place }
 {
-    if !scope[place..].starts_with(word) {
+    if !may_begin(word, scope, place) || !scope[place..].starts_with(word) {
         return false;
     }
     if place != 0 && word_at(scope, place - 1) {
@@ -77,15 +78,29 @@ fn type_of(scope: &[char], place: usize) -> Option<TokenType>
     None
 }
 
+/// The same where it is known whether a word's character stands before the place: behind one no word begins.
+fn type_behind(inside: bool, scope: &[char], place: usize) -> Option<TokenType>
+    requires place { place ≤ length scope.now }
+    requires before { inside ≡ (not (place == 0) && in_word scope.now (place - 1)) }
+    ensures { result ≡ type_at scope.now place }
+{
+    if inside {
+        return None;
+    }
+    type_of(scope, place)
+}
+
 /// The token type that a scope decides: that of the leftmost of the words `comment`, `string`,
 /// `regex` and `meta.embedded` in it.
 pub fn decided(scope: &[char]) -> Option<TokenType>
     ensures { result ≡ decided_type scope.now }
 {
+    let mut inside = false;
     for place in 0..scope.len() {
-        if let Some(found) = type_of(scope, place) {
+        if let Some(found) = type_behind(inside, scope, place) {
             return Some(found);
         }
+        inside = word_at(scope, place);
     }
     None
 }
