@@ -1,0 +1,38 @@
+//! Answers cases of a worker: a case a line on the standard input, an answer a line on the standard output.
+#![tactic(auto)]
+
+mod acts;
+mod callers;
+mod closing;
+mod many;
+mod shown;
+
+use anyhow::Result;
+use std::alloc::Global;
+use std::io::{BufRead, BufReader};
+use tm_cases::{Case, CaseFault, one_line};
+
+/// The answer to a line; a line that is no case is its own.
+fn answer(alloc: Global, line: &str) -> Result<String, CaseFault> {
+    let Some(case) = Case::read(alloc, line)? else {
+        return Ok(String::from_str(alloc, line)?);
+    };
+    let text = match case.command() {
+        "worker" => acts::worker(alloc, &case)?,
+        "many" => many::many(alloc, &case)?,
+        _ => return Err(CaseFault::NoCommand),
+    };
+    one_line(alloc, text.as_str())
+}
+
+fn main(rt: HostRuntime) -> Result<()> {
+    let alloc = rt.alloc();
+    for line in rt.lines(alloc) {
+        let line = line?;
+        match answer(alloc, line.as_str()) {
+            Ok(text) => println!(rt; "{text}")?,
+            Err(fault) => println!(rt; "fault: {fault}")?,
+        }
+    }
+    Ok(())
+}
