@@ -1,15 +1,4 @@
-pub mod Budgets
-pub mod Candidates
-pub mod Causes
-pub mod FoundWithin
-pub mod GrownEnds
+pub mod Fixed
 pub mod Insides
-pub mod LineStarts
-pub mod Lines
-pub mod MadeEnds
-pub mod Opens
-pub mod Paths
+pub mod Listed
 pub mod ReadPatterns
-pub mod Tokens
-pub mod Turns
-pub mod Winners

@@ -1,0 +1,5 @@
+use Rattle.tm_line.proofs.Fixed.{are-names}
+use Rattle.tm_line.proofs.names.fixed_scopes.Goals as goal
+
+pub returns-in-Some : goal.returns-in-Some
+returns-in-Some c = are-names c.in-Some.name.now c.fixed_names.result c.fixed_names.ensures.fixed
