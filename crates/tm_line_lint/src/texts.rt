@@ -10,7 +10,7 @@ use std::alloc::Global;
 use tm_defs::caps::Caps;
 use tm_defs::memory::OutOfMemory;
 use tm_defs::rules::Rule;
-use tm_defs::texts::{Line, Name};
+use tm_defs::texts::Name;
 use tm_onig_parse::{ParseFault, parse};
 use tm_template::ends::resolve;
 
@@ -64,9 +64,8 @@ fn look(
 fn with_nothing(alloc: Global, text: &Name) -> Result<Name, OutOfMemory>
     ensures { IfOk result (λ end. end ≡ tried text.now) }
 {
-    let line = Line::new(Vec::new(alloc));
     let caps = Caps::new(SmallVec::new(alloc));
-    resolve(alloc, text, &line, &caps)
+    resolve(alloc, text, &[], &caps)
 }
 
 /// Adds the pattern of an end or a while where its text is none.
