@@ -1,5 +1,5 @@
 -- The patterns of rules, as they are read rule by rule, and as they stand at the numbers of candidates.
-use Rattle.std.proofs.Common.{◌≡◌, ℕ, zero, suc, ◌+◌, ◌-◌, ◌<◌, ◌≤◌, ◌++◌, Bool, true, false, cond, nat_lt, List, [], ◌∷◌, length, length-append, map, take, Some, None, Option, refl, ap, ap₂, sym, ◌∙◌, add-one, arith, append-assoc, append-nil}
+use Rattle.std.proofs.Common.{◌≡◌, ℕ, zero, suc, ◌+◌, ◌-◌, ◌<◌, ◌≤◌, ◌++◌, Bool, true, false, cond, nat_lt, List, [], ◌∷◌, length, length-append, map, take, Some, None, Option, refl, ap, ap₂, sym, ◌∙◌, add-one, arith, append_assoc, append-nil}
 use Rattle.std.specs.Prelude.{slice_get, slice_set}
 use Rattle.std.proofs.lemmas.Bool.Decides.{nat_tests}
 use Rattle.std.proofs.lemmas.Option.{slice_get_past}
@@ -11,7 +11,7 @@ use Rattle.tm_rules.specs.declared.candidate.Candidate.{Candidate}
 use Rattle.tm_rules.specs.declared.candidate.Candidate.TheVariants.{Start, End}
 use Rattle.tm_defs.specs.declared.rules.Rule.{Rule}
 use Rattle.tm_line.specs.Search.{start_text, own_end, pattern_of, patterns_in}
-use Rattle.tm_line.specs.inner.Prepared.{counted_end, end_place, number_of, patterns_read, read_by, replaced}
+use Rattle.tm_line.specs.inner.Prepared.{Counts, StandsIn, counted_end, end_place, number_of, patterns_read, read_by, replaced}
 
 -- one rule more
 map-take-more : {A B : Type 0} (f : A → B) (xs : List A) (n : ℕ) (x : A) → slice_get xs n ≡ Some x → map f (take (suc n) xs) ≡ map f (take n xs) ++ f x ∷ []
@@ -27,7 +27,7 @@ pub one-read : (before : List (Option Tree)) (text : Option Rule → Option (Lis
     slice_get rules n ≡ Some rule → name ≡ text (Some rule) → new ≡ old ++ parsed_if name ∷ [] → AreReadTo before text rules (n + 1) new
 one-read before text rules n rule old new name are at is e =
     let f : Rule → Option Tree = λ rule. parsed_if (text (Some rule)) in
-    e ∙ ap (λ l. l ++ parsed_if name ∷ []) are ∙ append-assoc before (map f (take n rules)) (parsed_if name ∷ [])
+    e ∙ ap (λ l. l ++ parsed_if name ∷ []) are ∙ append_assoc before (map f (take n rules)) (parsed_if name ∷ [])
     ∙ ap (λ l. before ++ l) (ap (λ o. map f (take n rules) ++ parsed_if o ∷ []) is ∙ sym (map-take-more f rules n rule at) ∙ ap (λ k. map f (take k rules)) (sym (add-one n)))
 
 take-length : {A : Type 0} (xs : List A) → take (length xs) xs ≡ xs
@@ -87,11 +87,6 @@ module _ (rules : List Rule) where
   all-numbered n [] = refl
   all-numbered n (c ∷ cs) = ap₂ (λ p ps. p ∷ ps) (one-numbered n c) (all-numbered n cs)
 
-  -- what stands in place of the own end, if anything does, is the pattern that counts
-  abbrev pub Counts : ℕ → Option Tree → Option (Option Tree) → Type 0
-  Counts n p None = p ≡ parsed_if (own_end (slice_get rules n))
-  Counts n p (Some q) = q ≡ p
-
   module _ (f : FrameData) (has_end : Bool) where
     starts-same : (ms : List ℕ) → map (own_pattern rules f.rule) (map Start ms) ≡ map (pattern_of rules f has_end) (map Start ms)
     starts-same [] = refl
@@ -125,12 +120,12 @@ module _ (rules : List Rule) where
     counted cs = map (pattern_of rules f has_end) cs
 
     -- the end first
-    end-first : (ms : List ℕ) (end : Option (Option Tree)) → Counts f.rule (counted_end rules f has_end) end → replaced (own (End ∷ map Start ms)) 0 end ≡ counted (End ∷ map Start ms)
+    end-first : (ms : List ℕ) (end : Option (Option Tree)) → Counts rules f.rule (counted_end rules f has_end) end → replaced (own (End ∷ map Start ms)) 0 end ≡ counted (End ∷ map Start ms)
     end-first ms None h = ap₂ (λ p ps. p ∷ ps) (sym h ∙ sym end-counted) (starts-same ms)
     end-first ms (Some q) h = ap₂ (λ p ps. p ∷ ps) (h ∙ sym end-counted) (starts-same ms)
 
     -- the end last
-    end-last : (ms : List ℕ) (k : ℕ) (end : Option (Option Tree)) → k ≡ length (map Start ms) → Counts f.rule (counted_end rules f has_end) end →
+    end-last : (ms : List ℕ) (k : ℕ) (end : Option (Option Tree)) → k ≡ length (map Start ms) → Counts rules f.rule (counted_end rules f has_end) end →
         replaced (own (map Start ms ++ End ∷ [])) k end ≡ counted (map Start ms ++ End ∷ [])
     end-last ms k None at h =
         map-behind (own_pattern rules f.rule) (map Start ms) End ∙ ap₂ (λ ps p. ps ++ p ∷ []) (starts-same ms) (sym h ∙ sym end-counted)
@@ -142,11 +137,10 @@ module _ (rules : List Rule) where
         ∙ sym (map-behind (pattern_of rules f has_end) (map Start ms) End)
 
     -- the patterns that a search goes over are those of the open rule
-    pub searched : (last : Option Bool) (ms : List ℕ) (count : ℕ) (end : Option (Option Tree)) → count ≡ length (with_end_if last (map Start ms)) →
-        (last ≡ None → end ≡ None) → ((b : Bool) → last ≡ Some b → Counts f.rule (counted_end rules f has_end) end) →
+    pub searched : (last : Option Bool) (ms : List ℕ) (count : ℕ) (end : Option (Option Tree)) → count ≡ length (with_end_if last (map Start ms)) → StandsIn rules f has_end last end →
         replaced (own (with_end_if last (map Start ms))) (end_place last count) end ≡ counted (with_end_if last (map Start ms))
-    searched None ms count end c none h = rw (none refl) (starts-same ms)
-    searched (Some false) ms count end c none h = end-first ms end (h false refl)
-    searched (Some true) ms count end c none h =
+    searched None ms count end c h = rw h (starts-same ms)
+    searched (Some false) ms count end c h = end-first ms end h
+    searched (Some true) ms count end c h =
         let long = length-append (map Start ms) (End ∷ []) in
-        end-last ms (count - 1) end (omega (arith, c, long)) (h true refl)
+        end-last ms (count - 1) end (omega (arith, c, long)) h

@@ -120,6 +120,9 @@ fn inside_of(
 {
     let rule = rules.rule(n);
     let numbers = numbers_of(alloc, rules.len(), n, rules.candidates(n))?;
+    if numbers.len() > u32::MAX as usize {
+        return Err(OutOfMemory);
+    }
     Ok(Inside {
         list: scanner.candidates(alloc, numbers)?,
         end_last: end_last_in(rule),

@@ -2,16 +2,16 @@
 //!
 //! All candidates of the rule are one scan over the text. Where its end does not count, or was made at its begin, that
 //! stands in the list in place of the rule's own.
-ghost use Rattle.std.specs.Prelude.{◌≡◌, ◌≤◌, ◌<◌, ◌^◌, ℕ, List, Option, length, IfOk, MatchOption, option_map, slice_get};
+ghost use Rattle.std.specs.Prelude.{◌≡◌, ◌≤◌, ◌<◌, ◌^◌, ℕ, List, Option, length, IfOk, option_map};
 ghost use Rattle.std.specs.Option.{option_copied};
 ghost use Rattle.tm_defs.specs.Tables.{IsFrameOf, frame_at};
 ghost use Rattle.tm_onig_class.specs.Tree.{Tree};
 ghost use Rattle.tm_onig_scan.specs.Asked.{put_in};
-ghost use Rattle.tm_onig_scan.specs.Winner.{earliest_winner, parsed_if, scan_cost, start_of};
+ghost use Rattle.tm_onig_scan.specs.Winner.{earliest_winner, scan_cost, start_of};
 ghost use Rattle.tm_patcache.specs.Programs.{tree_in};
 ghost use Rattle.tm_rules.specs.Candidates.{flattened_candidates};
-ghost use Rattle.tm_line.specs.Search.{end_of, match_of, own_end, patterns_in, started, winner_in};
-ghost use Rattle.tm_line.specs.inner.Prepared.{counted_end, end_place, replaced};
+ghost use Rattle.tm_line.specs.Search.{end_of, match_of, patterns_in, started, winner_in};
+ghost use Rattle.tm_line.specs.inner.Prepared.{StandsIn, end_place, replaced};
 ghost use Rattle.tm_line.specs.inner.Searched.{Searches};
 
 use crate::prepared::{Inside, Prepared};
@@ -80,16 +80,20 @@ impl Prepared {
         }
     }
 
-    /// What stands in place of an open rule's own end: none where that counts.
+    /// What stands in place of an open rule's own end: none where that counts, or where the rule has none.
     fn end_instead<S: States>(
         &self,
         table: &S,
+        inside: &Inside,
         asked: Question,
     ) -> Result<Option<Option<Arc<Prog>>>, OutOfMemory>
         requires { IsFrameOf (S.tables table.now) asked.frame }
         ensures { let f = frame_at (S.tables table.now) asked.frame in
-            IfOk result (λ end. MatchOption end (counted_end self.now f asked.has_end ≡ parsed_if (own_end (slice_get self.now f.rule))) (λ program. tree_in program ≡ counted_end self.now f asked.has_end)) }
+            IfOk result (λ end. StandsIn self.now f asked.has_end inside.now.end_last (option_map tree_in end)) }
     {
+        if inside.end_last.is_none() {
+            return Ok(None);
+        }
         if !asked.has_end {
             return Ok(Some(None));
         }
@@ -119,10 +123,7 @@ impl Prepared {
         let Some(inside) = self.inside(rule) else {
             return Ok(Winner::Nothing);
         };
-        let end = match inside.end_last {
-            Some(_) => self.end_instead(table, asked)?,
-            None => None,
-        };
+        let end = self.end_instead(table, inside, asked)?;
         let it = Asked {
             text,
             anchors: Anchors {

@@ -1,5 +1,5 @@
 -- Rules that are ready to be searched: their patterns as they were read, and for each rule what stands inside it.
-use Rattle.std.specs.Prelude.{◌≡◌, ℕ, ◌+◌, List, ◌++◌, length, map, MatchOption, ⊤, Option, Some, None, nat_lt, if◌then◌else◌, slice_get, slice_set, Bool, true, false, ◌-◌}
+use Rattle.std.specs.Prelude.{◌≡◌, ℕ, ◌+◌, ◌<◌, ◌^◌, List, ◌++◌, length, map, MatchOption, ⊤, Option, Some, None, nat_lt, if◌then◌else◌, slice_get, slice_set, Bool, true, false, ◌-◌}
 use Rattle.tm_defs.specs.declared.frames.FrameData.{FrameData}
 use Rattle.tm_defs.specs.declared.rules.Rule.{Rule}
 use Rattle.tm_line_turns.specs.declared.found.Match.{Match}
@@ -34,6 +34,8 @@ AreNamesOf name fixed = MatchOption fixed ⊤ (λ names. (text : List ℕ) (m : 
 
 -- this is what is searched inside the rule of a number, and which names it pushes
 pub record IsInside (rules : List Rule) (n : ℕ) (inside : Inside) : Type 0 where
+  pub known : n < length rules
+  pub few : length inside.list.numbers.items < 2 ^ 32
   pub numbers : inside.list.numbers.items ≡ map (number_of (length rules) n) (flattened_candidates rules n)
   pub ready : AreCandidates (patterns_read rules) inside.list
   pub end_last : inside.end_last ≡ end_last_in (slice_get rules n)
@@ -59,3 +61,12 @@ end_place last count = 0
 abbrev pub counted_end : List Rule → FrameData → Bool → Option Tree
 counted_end rules frame true = parsed_if (end_text (slice_get rules frame.rule) frame.end)
 counted_end rules frame false = None
+
+-- what stands in place of a rule's own end, if anything does, is the pattern that counts; a rule without an end has nothing there
+abbrev pub Counts : List Rule → ℕ → Option Tree → Option (Option Tree) → Type 0
+Counts rules n p None = p ≡ parsed_if (own_end (slice_get rules n))
+Counts rules n p (Some q) = q ≡ p
+
+abbrev pub StandsIn : List Rule → FrameData → Bool → Option Bool → Option (Option Tree) → Type 0
+StandsIn rules frame has_end None end = end ≡ None
+StandsIn rules frame has_end (Some last) end = Counts rules frame.rule (counted_end rules frame has_end) end
