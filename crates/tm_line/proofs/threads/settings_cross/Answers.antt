@@ -1,9 +1,9 @@
-use denote.Param.Send.{arg_send, arg_sync, param_send, param_sync}
+use denote.Param.Send.{sendable}
 use Rattle.tm_line.proofs.Crossing.{setting_send, setting_sync}
 use Rattle.tm_line.proofs.threads.settings_cross.Goals as goal
 
 pub crosses-requires-send-T : goal.crosses-requires-send-T
-crosses-requires-send-T c κs = search (param_send, arg_send, setting_send)
+crosses-requires-send-T c κs = search (setting_send, sendable)
 
 pub crosses-requires-sync-T : goal.crosses-requires-sync-T
-crosses-requires-sync-T c κs = search (param_sync, arg_sync, setting_sync)
+crosses-requires-sync-T c κs = search (setting_sync, sendable)
