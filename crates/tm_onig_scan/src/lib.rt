@@ -177,9 +177,10 @@ impl Scanner {
     /// Whether the pattern of this number is readable.
     pub fn readable(&self, number: u32) -> bool
         requires { number < length self.now }
-        ensures { IsTrue result ↔ IsReadable (trees_of self.now) number }
+        ensures is { IsTrue result ↔ IsReadable (trees_of self.now) number }
+        ensures told { result ≡ is_some (pattern_at (trees_of self.now) number) }
     {
-        self.programs[number as usize].is_some()
+        is_program(&self.programs[number as usize])
     }
 
     /// The list of the patterns of these numbers, ready to be searched again and again: before which characters
