@@ -156,7 +156,14 @@ pub fn look_in(
     ensures { OnOk result (found.new.items ≡ found.old.items ++ unread_in rule.now) }
 {
     match rule {
-        Rule::Match { grammar, path, .. } => put(alloc, found, grammar, path, "/match", reads.start),
+        Rule::Match { grammar, path, .. } => put(
+            alloc,
+            found,
+            grammar,
+            path,
+            "/match",
+            reads.start,
+        ),
         Rule::BeginEnd {
             grammar,
             path,
