@@ -66,6 +66,24 @@ own_pattern rules n (Start m) = parsed_if (start_text (slice_get rules m))
 own_pattern rules n End = parsed_if (own_end (slice_get rules n))
 
 module _ (rules : List Rule) where
+  -- the patterns of the rule of a number
+  pub start-at : (n : ℕ) → n < length rules → pattern_at (patterns_read rules) n ≡ parsed_if (start_text (slice_get rules n))
+  start-at n low =
+      pattern_at-front (read_by start_text rules) (read_by own_end rules) n (let long = length-read start_text rules in omega (arith, low, long))
+      ∙ pattern_at-read start_text refl rules n
+
+  pub end-at : (n : ℕ) → pattern_at (patterns_read rules) (length rules + n) ≡ parsed_if (own_end (slice_get rules n))
+  end-at n =
+      pattern_at-back (read_by start_text rules) (read_by own_end rules) (length rules + n) n (let long = length-read start_text rules in omega (arith, long))
+      ∙ pattern_at-read own_end refl rules n
+
+  pub length-both : length (patterns_read rules) ≡ length rules + length rules
+  length-both =
+      let long = length-append (read_by start_text rules) (read_by own_end rules) in
+      let a = length-read start_text rules in
+      let b = length-read own_end rules in
+      omega (arith, long, a, b)
+
   start-numbered : (m : ℕ) (b : Bool) → nat_lt m (length rules) ≡ b → pattern_at (patterns_read rules) (cond b m (length rules + length rules)) ≡ parsed_if (start_text (slice_get rules m))
   start-numbered m true e =
       pattern_at-front (read_by start_text rules) (read_by own_end rules) m (let long = length-read start_text rules in grind (arith, nat_tests, long))

@@ -1,7 +1,9 @@
 //! The rules of a setting, ready to be searched. A rule is named by its number.
-ghost use Rattle.std.specs.Prelude.{◌≡◌, ◌<◌, ◌^◌, ◌+◌, ◌++◌, ◌∷◌, length, map, slice_get, Some, None, IfOk, OnOk, MatchOption};
+ghost use Rattle.std.specs.Prelude.{◌≡◌, ◌<◌, ◌^◌, ◌+◌, ◌++◌, ◌∷◌, flat_map, length, map, slice_get, Some, None, IfOk, OnOk, MatchOption};
 ghost use Rattle.std.specs.Option.{option_copied};
 ghost use Rattle.tm_onig_scan.specs.Winner.{trees_of};
+ghost use Rattle.tm_defs.specs.declared.rules.Rule.{Rule};
+ghost use Rattle.tm_line_lint.specs.Unread.{AreKnown, unread_in};
 ghost use Rattle.tm_rules.specs.Candidates.{flattened_candidates};
 ghost use Rattle.tm_line.specs.inner.Prepared.{AreInsides, IsInside, number_of, patterns_read};
 
@@ -12,6 +14,8 @@ use std::marker::Model;
 use tm_defs::memory::OutOfMemory;
 use tm_defs::rules::Rule;
 use tm_defs::texts::ScopePath;
+use tm_line_lint::{Reads, Unread, add_unreadable};
+use tm_onig_atom::store::Sets;
 use tm_onig_scan::Scanner;
 use tm_onig_scan::candidates::Candidates;
 use tm_patcache::cache::PatCache;
@@ -92,16 +96,16 @@ fn numbers_of(
     Ok(numbers)
 }
 
-/// The patterns of the rules.
-fn scanner_of(alloc: Global, rules: &Rules) -> Result<Scanner, OutOfMemory>
+/// The patterns of the rules. The sets that they name are in the store that is lent, from then on.
+fn scanner_of(alloc: Global, sets: &mut Sets, rules: &Rules) -> Result<Scanner, OutOfMemory>
     ensures { IfOk result (λ scanner. trees_of scanner ≡ patterns_read rules.now) }
 {
     let mut scanner = Scanner::new(alloc);
     for n in 0..rules.len() {
-        scanner.push(alloc, start_text(rules.rule(n)))?;
+        scanner.push_with(alloc, sets, start_text(rules.rule(n)))?;
     }
     for n in 0..rules.len() {
-        scanner.push(alloc, own_end(rules.rule(n)))?;
+        scanner.push_with(alloc, sets, own_end(rules.rule(n)))?;
     }
     Ok(scanner)
 }
@@ -146,13 +150,13 @@ fn insides_of(alloc: Global, rules: &Rules, scanner: &Scanner) -> Result<Vec<Ins
 
 impl Prepared {
     /// The same rules, with their patterns read. 2^31 rules or more are want of memory.
-    pub fn build(alloc: Global, rules: Rules) -> Result<Self, OutOfMemory>
+    pub fn build(alloc: Global, sets: &mut Sets, rules: Rules) -> Result<Self, OutOfMemory>
         ensures { IfOk result (λ built. built ≡ rules) }
     {
         if rules.len() >= 1 << 31 {
             return Err(OutOfMemory);
         }
-        let scanner = scanner_of(alloc, &rules)?;
+        let scanner = scanner_of(alloc, sets, &rules)?;
         let insides = insides_of(alloc, &rules, &scanner)?;
         let ends = PatCache::new(alloc, ENDS_KEPT)?;
         Ok(Prepared {
@@ -162,6 +166,35 @@ impl Prepared {
             ends,
             alloc,
         })
+    }
+
+    /// Which patterns of a rule are readable, as they stand in the grammar.
+    fn reads_of(&self, n: u32) -> Reads
+        requires few { length self.now < 2 ^ 31 }
+        requires within { n < length self.now }
+        ensures { (rule : Rule) → slice_get self.now n ≡ Some rule → AreKnown rule result }
+    {
+        let count = self.rules.len();
+        Reads {
+            start: self.scanner.readable(n),
+            end: self.scanner.readable(count + n),
+        }
+    }
+
+    /// The unreadable patterns of the rules. What was read is not read again.
+    pub(crate) fn unreadable(&self, sets: &mut Sets) -> Result<Vec<Unread>, OutOfMemory>
+        ensures { IfOk result (λ all. all.items ≡ flat_map unread_in self.now) }
+    {
+        let count = self.rules.len();
+        let mut found = Vec::new(self.alloc);
+        if count >= 1 << 31 {
+            return Err(OutOfMemory);
+        }
+        for n in 0..count {
+            let reads = self.reads_of(n);
+            add_unreadable(self.alloc, sets, &mut found, self.rules.rule(n), reads)?;
+        }
+        Ok(found)
     }
 
     /// The rule of a number.

@@ -1,28 +1,75 @@
 //! The texts of a rule's patterns, each tried as a pattern.
-ghost use Rattle.std.specs.Prelude.{◌≡◌, ◌++◌, chars, codes, option_map, IfOk, OnOk};
-ghost use Rattle.std.specs.Option.{is_none};
+ghost use Rattle.std.specs.Prelude.{◌≡◌, ◌++◌, chars, Option, Some, IfOk, OnOk};
+ghost use Rattle.std.specs.Option.{is_some, option_copied};
+ghost use Rattle.tm_onig_class.specs.Tree.{Tree};
 ghost use Rattle.tm_onig_parse.specs.Parsed.{parsed};
-ghost use Rattle.tm_line_lint.specs.Unread.{key_path, unread_at, unread_if, unread_in, tried};
+ghost use Rattle.tm_rules.specs.Readers.{start_text, own_end};
+ghost use Rattle.tm_line_lint.specs.Unread.{key_path, unread_if, unread_in, tried, is_read, AreKnown};
 
-use crate::Unread;
+use crate::{Reads, Unread};
 use smallvec::SmallVec;
 use std::alloc::Global;
 use tm_defs::caps::Caps;
 use tm_defs::memory::OutOfMemory;
 use tm_defs::rules::Rule;
 use tm_defs::texts::Name;
-use tm_onig_parse::{ParseFault, parse};
-use tm_template::ends::resolve;
+use tm_onig_atom::store::Sets;
+use tm_onig_parse::{ParseFault, parse_with};
+use tm_template::ends::{has_references, resolve};
+use tm_template::laws::ends_alone;
 
-/// Whether a text is no pattern.
-fn is_unreadable(alloc: Global, text: &Name) -> Result<bool, OutOfMemory>
-    ensures { IfOk result (λ is. is ≡ is_none (parsed text.now)) }
+/// Whether a text is a pattern. The sets that it names are those of the store, where it has them.
+fn is_readable(alloc: Global, sets: &mut Sets, text: &Name) -> Result<bool, OutOfMemory>
+    ensures { IfOk result (λ is. is ≡ is_some (parsed text.now)) }
 {
-    match parse(alloc, text) {
-        Ok(_) => Ok(false),
-        Err(ParseFault::Unreadable) => Ok(true),
+    match parse_with(alloc, sets, text) {
+        Ok(_) => Ok(true),
+        Err(ParseFault::Unreadable) => Ok(false),
         Err(ParseFault::OutOfMemory) => Err(OutOfMemory),
     }
+}
+
+/// The same where there may be no text.
+fn is_read(alloc: Global, sets: &mut Sets, text: Option<&Name>) -> Result<bool, OutOfMemory>
+    ensures { IfOk result (λ is. is ≡ is_read (option_copied text.entry)) }
+{
+    match text {
+        Some(text) => is_readable(alloc, sets, text),
+        None => Ok(false),
+    }
+}
+
+/// The text of the pattern that starts a rule.
+fn start_text(rule: &Rule) -> Option<&Name>
+    ensures { option_copied result ≡ start_text (Some rule.now) }
+{
+    match rule {
+        Rule::Match { match_text, .. } => Some(match_text),
+        Rule::BeginEnd { begin, .. } => Some(begin),
+        Rule::BeginWhile { begin, .. } => Some(begin),
+        Rule::Only { .. } => None,
+    }
+}
+
+/// The text of the pattern that ends it, as it stands in the grammar.
+fn end_text(rule: &Rule) -> Option<&Name>
+    ensures { option_copied result ≡ own_end (Some rule.now) }
+{
+    match rule {
+        Rule::BeginEnd { end_text, .. } => end_text.as_ref(),
+        Rule::Match { .. } => None,
+        Rule::BeginWhile { .. } => None,
+        Rule::Only { .. } => None,
+    }
+}
+
+/// Reads the patterns of a rule, to know whether they are readable.
+pub fn reads_of(alloc: Global, sets: &mut Sets, rule: &Rule) -> Result<Reads, OutOfMemory>
+    ensures { IfOk result (AreKnown rule.now) }
+{
+    let start = is_read(alloc, sets, start_text(rule))?;
+    let end = is_read(alloc, sets, end_text(rule))?;
+    Ok(Reads { start, end })
 }
 
 fn chars_of(alloc: Global, text: &str) -> Result<Vec<char>, OutOfMemory>
@@ -41,18 +88,19 @@ fn path_of(alloc: Global, rule: &Name, key: &str) -> Result<Name, OutOfMemory>
     Ok(Name::new(path))
 }
 
-/// Adds the pattern of a key where its text is none.
-fn look(
+/// Adds the pattern of a key where it is not readable.
+fn put(
     alloc: Global,
     found: &mut Vec<Unread>,
     grammar: &Name,
     rule: &Name,
     key: &str,
-    text: &Name,
+    readable: bool,
 ) -> Result<(), OutOfMemory>
-    ensures { OnOk result (found.new.items ≡ found.old.items ++ unread_if grammar.now (key_path rule.now key.now) (parsed text.now)) }
+    ensures { (tree : Option Tree) → readable ≡ is_some tree →
+        OnOk result (found.new.items ≡ found.old.items ++ unread_if grammar.now (key_path rule.now key.now) tree) }
 {
-    if is_unreadable(alloc, text)? {
+    if !readable {
         let grammar = grammar.copy()?;
         let path = path_of(alloc, rule, key)?;
         found.push(Unread { grammar, path })?;
@@ -68,67 +116,77 @@ fn with_nothing(alloc: Global, text: &Name) -> Result<Name, OutOfMemory>
     resolve(alloc, text, &[], &caps)
 }
 
-/// Adds the pattern of an end or a while where its text is none.
-fn look_at_end(
-    alloc: Global,
-    found: &mut Vec<Unread>,
-    grammar: &Name,
-    rule: &Name,
-    key: &str,
-    text: &Name,
-) -> Result<(), OutOfMemory>
-    ensures { OnOk result (found.new.items ≡ found.old.items ++ unread_if grammar.now (key_path rule.now key.now) (parsed (tried text.now))) }
+/// Whether an end or a while is readable with every captured text empty.
+fn is_tried_readable(alloc: Global, sets: &mut Sets, text: &Name) -> Result<bool, OutOfMemory>
+    ensures { IfOk result (λ is. is ≡ is_some (parsed (tried text.now))) }
 {
     let text = with_nothing(alloc, text)?;
-    look(alloc, found, grammar, rule, key, &text)
+    is_readable(alloc, sets, &text)
 }
 
-/// Adds a begin and an end, if there is one, where their texts are none.
-fn look_at_both(
+/// The same of an end of which it is known whether it is readable as it stands: one without a reference is tried
+/// as it stands.
+fn is_end_readable(
     alloc: Global,
-    found: &mut Vec<Unread>,
-    grammar: &Name,
-    rule: &Name,
-    begin: &Name,
-    end: &Option<Name>,
-) -> Result<(), OutOfMemory>
-    ensures { OnOk result (found.new.items ≡
-        found.old.items ++ (unread_if grammar.now (key_path rule.now (codes "/begin")) (parsed begin.now) ++ unread_at grammar.now rule.now (codes "/end") (option_map tried end.now))) }
+    sets: &mut Sets,
+    text: &Name,
+    known: bool,
+) -> Result<bool, OutOfMemory>
+    requires { known ≡ is_some (parsed text.now) }
+    ensures { IfOk result (λ is. is ≡ is_some (parsed (tried text.now))) }
 {
-    look(alloc, found, grammar, rule, "/begin", begin)?;
-    match end {
-        Some(end) => look_at_end(alloc, found, grammar, rule, "/end", end),
-        None => Ok(()),
+    ends_alone();
+    if has_references(text) {
+        is_tried_readable(alloc, sets, text)
+    } else {
+        Ok(known)
     }
 }
 
-/// Adds the unreadable patterns of a rule.
-pub fn look_in(alloc: Global, found: &mut Vec<Unread>, rule: &Rule) -> Result<(), OutOfMemory>
+/// Adds the unreadable patterns of a rule, of whose patterns this is known.
+pub fn look_in(
+    alloc: Global,
+    sets: &mut Sets,
+    found: &mut Vec<Unread>,
+    rule: &Rule,
+    reads: Reads,
+) -> Result<(), OutOfMemory>
+    requires { AreKnown rule.now reads }
     ensures { OnOk result (found.new.items ≡ found.old.items ++ unread_in rule.now) }
 {
     match rule {
-        Rule::Match {
+        Rule::Match { grammar, path, .. } => put(
+            alloc,
+            found,
             grammar,
             path,
-            match_text,
-            ..
-        } => look(alloc, found, grammar, path, "/match", match_text),
+            "/match",
+            reads.start,
+        ),
         Rule::BeginEnd {
             grammar,
             path,
-            begin,
             end_text,
             ..
-        } => look_at_both(alloc, found, grammar, path, begin, end_text),
+        } => {
+            put(alloc, found, grammar, path, "/begin", reads.start)?;
+            match end_text {
+                Some(end) => {
+                    let readable = is_end_readable(alloc, sets, end, reads.end)?;
+                    put(alloc, found, grammar, path, "/end", readable)
+                }
+                None => Ok(()),
+            }
+        }
         Rule::BeginWhile {
             grammar,
             path,
-            begin,
             while_text,
             ..
         } => {
-            look(alloc, found, grammar, path, "/begin", begin)?;
-            look_at_end(alloc, found, grammar, path, "/while", while_text)
+            put(alloc, found, grammar, path, "/begin", reads.start)?;
+            let readable = is_tried_readable(alloc, sets, while_text)?;
+            put(alloc, found, grammar, path, "/while", readable)
         }
         Rule::Only { .. } => Ok(()),
     }

@@ -123,8 +123,8 @@ fn members(alloc: Global, sets: &mut Sets, fold: bool, parts: &[Part]) -> Result
     ended(alloc, fold, gathered)
 }
 
-/// The set that the parts of a class make.
-pub(crate) fn class_set(
+/// The set that the parts of a class make, made anew.
+fn made(
     alloc: Global,
     sets: &mut Sets,
     fold: bool,
@@ -135,4 +135,23 @@ pub(crate) fn class_set(
 {
     let set = members(alloc, sets, fold, parts)?;
     if negated { set.complement() } else { Ok(set) }
+}
+
+/// The set that the parts of a class make. It is made once.
+pub(crate) fn class_set(
+    alloc: Global,
+    sets: &mut Sets,
+    fold: bool,
+    negated: bool,
+    parts: &[Part],
+) -> Result<Set, OutOfMemory>
+    ensures { IfOk result (λ s. (c : ℕ) → IsChar c → has_char s c ≡ class_has fold negated parts.now c) }
+{
+    if let Some(set) = sets.class(fold, negated, parts)? {
+        return Ok(set);
+    }
+    let set = made(alloc, sets, fold, negated, parts)?;
+    let copy = set.copy()?;
+    sets.keep_class(alloc, fold, negated, parts, set)?;
+    Ok(copy)
 }

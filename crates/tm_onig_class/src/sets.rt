@@ -2,8 +2,10 @@
 //!
 //! Inside, the ranges are those of `regex_class` over ranks, so that membership is a search by
 //! halving, and a table of bits answers for ASCII. An operation takes the time of sorting the ranges
-//! that it meets; many ranges are put together by one `from_ranges`, not by unions one by one.
+//! that it meets; many ranges are put together by one `from_ranges`, not by unions one by one. Equal sets
+//! of many patterns share their ranges: a copy takes no memory.
 ghost use Rattle.std.specs.Prelude.{◌≡◌, ℕ, Bool, ◌≤◌, ◌||◌, ◌&&◌, not, nat_le, IfOk, IsTrue};
+ghost use Rattle.std.specs.Arc.{arc_value};
 ghost use Rattle.regex_class.specs.Ranges.{in_ranges};
 ghost use Rattle.tm_onig_class.specs.Ranks.{chars_of, AreRanks};
 ghost use Rattle.tm_onig_class.specs.Members.{has_char, IsChar, ranges_rise, ranges_of};
@@ -15,35 +17,39 @@ use crate::ranks::{LAST_RANK, rank, rank_from, rank_to};
 use regex_class::{Class, ClassRange};
 use std::alloc::Global;
 use std::marker::Model;
+use std::sync::Arc;
 use tm_defs::memory::OutOfMemory;
 
 /// A set of characters. Contracts see its ranges, first and last character: they rise, and no two
 /// overlap or touch. U+E000 comes directly after U+D7FF, so no range ends where the other begins.
 #[derive(Drop)]
 pub struct Set {
-    class: Class,
+    class: Arc<Class>,
     ascii: u128,
 }
 
 impl Model for Set {
     ghost use Rattle.std.specs.Prelude.{List, ℕ};
+    ghost use Rattle.std.specs.Arc.{arc_value};
     ghost use Rattle.tm_onig_class.specs.Ranks.{chars_of};
     ghost use Rattle.tm_onig_class.specs.Ascii.{IsTied};
 
     ghost Value = { List (ℕ × ℕ) };
 
-    ghost view = { λ s. chars_of s.class.ranges.items };
+    ghost view = { λ s. chars_of (arc_value s.class).ranges.items };
 
-    ghost invariant = { λ s. IsTied s.class.ranges.items s.ascii };
+    ghost invariant = { λ s. IsTied (arc_value s.class).ranges.items s.ascii };
 }
 
 impl Set {
-    fn of_class(class: Class) -> Set
+    fn of_class(class: Class) -> Result<Set, OutOfMemory>
         requires { AreRanks class.ranges.items }
-        ensures { result ≡ chars_of class.ranges.items }
+        ensures { IfOk result (λ s. s ≡ chars_of class.ranges.items) }
     {
         let ascii = ascii_of(&class);
-        Set { class, ascii }
+        let alloc = *class.ranges.allocator();
+        let class = Arc::new(alloc, class)?;
+        Ok(Set { class, ascii })
     }
 
     /// Law: the ranges of a set rise, and no two touch.
@@ -98,7 +104,8 @@ impl Set {
         ensures { IfOk result (λ s. (c : ℕ) → IsChar c → has_char s c ≡ (nat_le first c && nat_le c last)) }
     {
         let class = Class::from_ranges(alloc, &[(rank(first), rank(last))])?;
-        Ok(Set::of_class(class))
+        let set = Set::of_class(class)?;
+        Ok(set)
     }
 
     /// The characters of the ranges, which come in any order. A range downwards is empty.
@@ -123,7 +130,8 @@ impl Set {
             ranks.push((rank_from(range.0), rank_to(range.1)))?;
         }
         let class = Class::new(ranks)?;
-        Ok(Set::of_class(class))
+        let set = Set::of_class(class)?;
+        Ok(set)
     }
 
     /// The members of either.
@@ -131,7 +139,8 @@ impl Set {
         ensures { IfOk result (λ s. (c : ℕ) → IsChar c → has_char s c ≡ (has_char self.now c || has_char other.now c)) }
     {
         let class = self.class.union(&other.class)?;
-        Ok(Set::of_class(class))
+        let set = Set::of_class(class)?;
+        Ok(set)
     }
 
     /// The members of both.
@@ -139,7 +148,8 @@ impl Set {
         ensures { IfOk result (λ s. (c : ℕ) → IsChar c → has_char s c ≡ (has_char self.now c && has_char other.now c)) }
     {
         let class = self.class.intersection(&other.class)?;
-        Ok(Set::of_class(class))
+        let set = Set::of_class(class)?;
+        Ok(set)
     }
 
     /// The characters that are no members.
@@ -147,27 +157,28 @@ impl Set {
         ensures { IfOk result (λ s. (c : ℕ) → IsChar c → has_char s c ≡ not (has_char self.now c)) }
     {
         let class = self.class.negate(LAST_RANK)?;
-        Ok(Set::of_class(class))
+        let set = Set::of_class(class)?;
+        Ok(set)
     }
 
-    /// The same set again.
+    /// The same set again, which shares its ranges.
     pub fn copy(&self) -> Result<Set, OutOfMemory>
         ensures { IfOk result (λ s. s ≡ self.now) }
     {
-        let ranges = Vec::from_slice(*self.class.ranges.allocator(), &self.class.ranges)?;
-        Ok(Set {
-            class: Class { ranges },
-            ascii: self.ascii,
-        })
+        let class = Arc::clone(&self.class)?;
+        let ascii = self.ascii;
+        Ok(Set { class, ascii })
     }
 
     /// The characters that match members without regard to case.
     pub fn folded(&self) -> Result<Set, OutOfMemory>
         ensures { IfOk result (λ s. (c : ℕ) → IsChar c → has_char s c ≡ has_alike self.now c) }
     {
-        let mut ranges = Vec::from_slice(*self.class.ranges.allocator(), &self.class.ranges)?;
-        add_alike(&self.class, ucd_case::fold_pairs(), &mut ranges)?;
+        let old: &Class = &self.class;
+        let mut ranges = Vec::from_slice(*old.ranges.allocator(), &old.ranges)?;
+        add_alike(old, ucd_case::fold_pairs(), &mut ranges)?;
         let class = Class::new(ranges)?;
-        Ok(Set::of_class(class))
+        let set = Set::of_class(class)?;
+        Ok(set)
     }
 }

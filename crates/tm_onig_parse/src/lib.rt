@@ -31,6 +31,7 @@ mod tokens;
 use std::alloc::Global;
 use tm_defs::texts::Name;
 use tm_onig_atom::AtomFault;
+use tm_onig_atom::store::Sets;
 use tm_onig_class::patterns::Pattern;
 
 /// Why there is no pattern.
@@ -66,7 +67,24 @@ pub fn parse(alloc: Global, text: &Name) -> Result<Pattern, ParseFault>
     // The same as a function of the text.
     ensures read { Gives tree_of result (parsed text.now) }
 {
-    reader::read(alloc, text.as_slice())
+    parse_with(alloc, &mut Sets::new(alloc), text)
+}
+
+/// As `parse`, with the sets of a store that is lent: the patterns that are read with one store share the sets that
+/// they name, and their classes. Nothing that is read depends on what the store has.
+pub fn parse_with(alloc: Global, sets: &mut Sets, text: &Name) -> Result<Pattern, ParseFault>
+    // What is read is spelled so, and means this tree.
+    ensures found { IfOk result (λ pattern. (body : Body) × Spells text.now body × (tree_of pattern ≡ meaning body)) }
+    // What is spelled so is read, unless memory runs out.
+    ensures only { (body : Body) → Spells text.now body → Gives tree_of result (Some (meaning body)) }
+    // Its groups are numbered from 1 in the order of their opening.
+    ensures numbered { IfOk result (λ pattern. IsNumbered (tree_of pattern)) }
+    // The limits of its loops are in order.
+    ensures ordered { IfOk result (λ pattern. AreLimitsInOrder (tree_of pattern)) }
+    // The same as a function of the text.
+    ensures read { Gives tree_of result (parsed text.now) }
+{
+    reader::read(alloc, sets, text.as_slice())
 }
 
 /// What is read of a text, as a function, is what the grammar says: the tree that the text means where

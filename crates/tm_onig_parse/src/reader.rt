@@ -239,16 +239,15 @@ fn read_all(
     end(alloc, reader)
 }
 
-/// The pattern that the text spells.
-pub fn read(alloc: Global, text: &[char]) -> Result<Pattern, ParseFault>
+/// The pattern that the text spells. The sets that it names are those of the store, where it has them.
+pub fn read(alloc: Global, sets: &mut Sets, text: &[char]) -> Result<Pattern, ParseFault>
     ensures { Gives tree_of result (parsed text.now) }
 {
     if text.len() > LONGEST {
         return Err(ParseFault::Unreadable);
     }
-    let mut sets = Sets::new(alloc);
-    match group_names(alloc, &mut sets, text) {
-        Ok(names) => read_all(alloc, &mut sets, &GroupNames::Read(names), text),
+    match group_names(alloc, sets, text) {
+        Ok(names) => read_all(alloc, sets, &GroupNames::Read(names), text),
         Err(fault) => Err(fault),
     }
 }

@@ -1,5 +1,5 @@
 -- Where no match begins, a pass need not look, and what an answer says of that.
-use Rattle.std.proofs.Common.{◌≡◌, ℕ, zero, suc, ◌+◌, ◌-◌, ◌<◌, ◌≤◌, Bool, true, false, List, [], ◌∷◌, length, Option, Some, None, slice_get, refl, sym, ap, ◌∙◌, subst, nat_lt, arith}
+use Rattle.std.proofs.Common.{◌≡◌, ℕ, ◌+◌, ◌-◌, ◌≤◌, Bool, true, List, length, Option, Some, None, slice_get, refl, sym, ◌∙◌, subst, arith}
 use Rattle.std.specs.Prelude.{MatchOption, Result, option_map}
 use Rattle.tm_onig_class.specs.Tree.{Tree}
 use Rattle.tm_onig_search.specs.Outcomes.{Caps}
@@ -12,7 +12,7 @@ use Rattle.tm_onig_scan.specs.declared.asked.Instead.{Instead}
 use Rattle.tm_onig_scan.specs.declared.candidates.Candidates.{Candidates}
 use Rattle.tm_onig_scan.specs.Asked.{searched_in}
 use Rattle.tm_onig_scan.specs.Memo.{listed, until_of}
-use Rattle.tm_onig_scan.specs.Pass.{Pass, Tries, pass_from}
+use Rattle.tm_onig_scan.specs.Pass.{Tries, pass_from}
 use Rattle.tm_onig_scan.specs.Steady.{all_steady, NoneStarts}
 use Rattle.tm_onig_scan.specs.Winner.{trees_of, start_of, earliest_winner}
 use Rattle.tm_onig_scan.specs.WinnerLaws.{IsWinner}

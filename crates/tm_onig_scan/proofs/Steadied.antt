@@ -1,13 +1,13 @@
 -- Whether the patterns of a list are steady, from the last to the first.
-use Rattle.std.proofs.Common.{◌≡◌, ℕ, zero, suc, ◌-◌, ◌<◌, ◌≤◌, Bool, true, List, [], ◌∷◌, length, get_or, map, drop, Option, refl, sym, ap, ◌∙◌, arith}
+use Rattle.std.proofs.Common.{◌≡◌, ℕ, zero, suc, ◌-◌, ◌<◌, ◌≤◌, Bool, true, List, [], ◌∷◌, length, get_or, map, drop, Option, refl, ap, arith}
 use Rattle.std.specs.Prelude.{◌&&◌}
 use Rattle.std.proofs.Math.ListN.{drop_of_length-le}
 use Rattle.tm_onig_class.specs.declared.patterns.Pattern.{Pattern}
 use Rattle.tm_onig_class.specs.Tree.{Tree, tree_of, trees}
 use Rattle.tm_onig_vm.proofs.Parts.{parts_at, no_parts}
 use Rattle.tm_onig_scan.specs.Steady.{is_steady, are_steady, steady_if, all_steady}
-use Rattle.tm_onig_scan.specs.Winner.{trees_of, pattern_at, patterns_at}
-use Rattle.tm_onig_scan.proofs.Tried.{tree_step, length_trees}
+use Rattle.tm_onig_scan.specs.Winner.{pattern_at, patterns_at}
+use Rattle.tm_onig_scan.proofs.Tried.{tree_step}
 
 pub parts_none : (parts : List Pattern) → true ≡ are_steady (trees (map tree_of (drop (length parts) parts)))
 unfolding is_steady

@@ -16,7 +16,7 @@
 //! patterns one after another, each to its first match, take 4 + 6 + 3 = 13.
 #![tactic(auto)]
 
-ghost use Rattle.std.specs.Option.{option_copied};
+ghost use Rattle.std.specs.Option.{is_some, option_copied};
 ghost use Rattle.std.specs.Prelude.{◌≡◌, ◌↔◌, ◌+◌, ◌++◌, ◌<◌, ◌≤◌, ◌^◌, ◌-◌, ℕ, Bool, List, [], ◌∷◌, Option, length, map, option_map, Some, IsTrue, true, OnOk, OnErr, IfOk, IfSome, IsErrOf, slice_get};
 ghost use Rattle.tm_onig_class.specs.Tree.{Tree, tree_of};
 ghost use Rattle.tm_onig_parse.specs.Parsed.{parsed};
@@ -46,7 +46,8 @@ use std::marker::Model;
 use tm_defs::caps::Caps;
 use tm_defs::memory::OutOfMemory;
 use tm_defs::texts::{Line, Name};
-use tm_onig_parse::{ParseFault, parse};
+use tm_onig_atom::store::Sets;
+use tm_onig_parse::{ParseFault, parse_with};
 use tm_onig_vm::fault::FindFault;
 use tm_onig_vm::program::{Prog, Room, compile, find};
 use tm_onig_vm::starts::Anchors;
@@ -74,10 +75,10 @@ impl Model for Scanner {
 }
 
 /// The program of a pattern's text; none where the text is no pattern.
-fn program_of(alloc: Global, text: &Name) -> Result<Option<Prog>, OutOfMemory>
+fn program_of(alloc: Global, sets: &mut Sets, text: &Name) -> Result<Option<Prog>, OutOfMemory>
     ensures { IfOk result (λ program. option_map tree_of program ≡ parsed text.now) }
 {
-    match parse(alloc, text) {
+    match parse_with(alloc, sets, text) {
         Ok(pattern) => {
             let program = compile(alloc, &pattern)?;
             Ok(Some(program))
@@ -88,12 +89,26 @@ fn program_of(alloc: Global, text: &Name) -> Result<Option<Prog>, OutOfMemory>
 }
 
 /// The same where there may be no text.
-fn program_if(alloc: Global, text: Option<&Name>) -> Result<Option<Prog>, OutOfMemory>
+fn program_if(
+    alloc: Global,
+    sets: &mut Sets,
+    text: Option<&Name>,
+) -> Result<Option<Prog>, OutOfMemory>
     ensures { IfOk result (λ program. option_map tree_of program ≡ parsed_if (option_copied text.entry)) }
 {
     match text {
-        Some(text) => program_of(alloc, text),
+        Some(text) => program_of(alloc, sets, text),
         None => Ok(None),
+    }
+}
+
+/// Whether there is a program.
+fn is_program(program: &Option<Prog>) -> bool
+    ensures { result ≡ is_some (option_map tree_of program.now) }
+{
+    match program {
+        Some(_) => true,
+        None => false,
     }
 }
 
@@ -114,12 +129,29 @@ impl Scanner {
         ensures ok { OnOk result (trees_of self.new ≡ trees_of self.old ++ parsed_if (option_copied text.entry) ∷ []) }
         ensures err { OnErr result (self.new ≡ self.old) }
     {
+        self.push_with(alloc, &mut Sets::new(alloc), text)?;
+        Ok(())
+    }
+
+    /// As `push`, with a store of sets that is lent: patterns that are added with one store share the sets that
+    /// they name, and their classes. Tells whether the pattern is readable; where there is no text it is not.
+    pub fn push_with(
+        &mut self,
+        alloc: Global,
+        sets: &mut Sets,
+        text: Option<&Name>,
+    ) -> Result<bool, OutOfMemory>
+        ensures ok { OnOk result (trees_of self.new ≡ trees_of self.old ++ parsed_if (option_copied text.entry) ∷ []) }
+        ensures told { IfOk result (λ readable. readable ≡ is_some (parsed_if (option_copied text.entry))) }
+        ensures err { OnErr result (self.new ≡ self.old) }
+    {
         if self.programs.len() >= u32::MAX as usize {
             return Err(OutOfMemory);
         }
-        let program = program_if(alloc, text)?;
+        let program = program_if(alloc, sets, text)?;
+        let readable = is_program(&program);
         self.programs.push(program)?;
-        Ok(())
+        Ok(readable)
     }
 
     /// A scanner for the patterns of these texts, in this order. A list of 2^32 texts or more is answered
@@ -128,8 +160,9 @@ impl Scanner {
         ensures { IfOk result (λ scanner. trees_of scanner ≡ map parsed patterns.now) }
     {
         let mut scanner = Scanner::new(alloc);
+        let mut sets = Sets::new(alloc);
         for text in patterns {
-            scanner.push(alloc, Some(text))?;
+            scanner.push_with(alloc, &mut sets, Some(text))?;
         }
         Ok(scanner)
     }
@@ -144,9 +177,10 @@ impl Scanner {
     /// Whether the pattern of this number is readable.
     pub fn readable(&self, number: u32) -> bool
         requires { number < length self.now }
-        ensures { IsTrue result ↔ IsReadable (trees_of self.now) number }
+        ensures is { IsTrue result ↔ IsReadable (trees_of self.now) number }
+        ensures told { result ≡ is_some (pattern_at (trees_of self.now) number) }
     {
-        self.programs[number as usize].is_some()
+        is_program(&self.programs[number as usize])
     }
 
     /// The list of the patterns of these numbers, ready to be searched again and again: before which characters

@@ -1,6 +1,6 @@
 -- A memo's fields, and what they say.
 use Rattle.std.specs.Option.{option_copied}
-use Rattle.std.specs.Prelude.{◌≡◌, ◌<◌, ◌^◌, true, ℕ, List, Option, length, option_map, IfSome}
+use Rattle.std.specs.Prelude.{◌≡◌, ◌<◌, ◌^◌, true, List, Option, length, option_map, IfSome}
 use Rattle.tm_onig_class.specs.Tree.{Tree}
 use Rattle.tm_onig_scan.specs.Asked.{searched_in}
 use Rattle.tm_onig_scan.specs.Memo.{MemoOf}

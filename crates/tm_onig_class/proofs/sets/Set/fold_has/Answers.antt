@@ -1,4 +1,5 @@
 use Rattle.std.proofs.Common.{◌≡◌, ap, sym, subst, ◌∙◌, ◌↔◌, IsTrue, inr, ⊎_elim, refl}
+use Rattle.std.specs.Arc.{arc_value}
 use Rattle.std.proofs.lemmas.Bool.{both_ways}
 use Rattle.regex_class.specs.Ranges.{in_ranges, KeysRise}
 use Rattle.ucd_case.specs.CaseFolding.{fold_pairs}
@@ -16,10 +17,10 @@ pub returns-else-has : goal.returns-else-has
 returns-else-has c =
     let x = c.args.c in
     let is : IsChar x = scalar_is x c.ranges.c.0 in
-    let rs = c.self.inside.class.ranges.items in
+    let rs = (arc_value c.self.inside.class).ranges.items in
     let e : c.has.result ≡ in_ranges rs (rank_of x) = c.has.ensures ∙ ap (λ v. has_char v x) (sym c.self.view_is) ∙ has_char-ranks rs x is in
     let both = leads_is rs x is in
-    let leads : IsTrue c.meets_alike.result ↔ LeadsTo fold_pairs rs x = subst (λ ps. IsTrue c.meets_alike.result ↔ LeadsTo ps rs x) c.fold_pairs.ensures.table c.meets_alike.ensures in
+    let leads : IsTrue c.meets_alike.result ↔ LeadsTo fold_pairs rs x = subst (λ ps. IsTrue c.meets_alike.result ↔ LeadsTo ps rs x) c.fold_pairs.ensures.table (rw c.deref.ensures at c.meets_alike.ensures) in
     decides _ c.args.self.now x (
     subst (λ v. IsTrue c.meets_alike.result ↔ HasAlike v x) c.self.view_is (
       (λ h. both.0 (inr (leads.0 h))),

@@ -1,4 +1,5 @@
 use Rattle.std.proofs.Common.{◌≡◌, ℕ, ◌||◌, ap, ap₂, sym, subst, ◌∙◌, ◌↔◌, IsTrue, List}
+use Rattle.std.specs.Arc.{arc_value}
 use Rattle.regex_class.specs.Ranges.{Range, in_ranges, HasExactly}
 use Rattle.ucd_case.specs.CaseFolding.{fold_pairs}
 use Rattle.tm_onig_class.specs.Ranks.{rank_of}
@@ -16,15 +17,15 @@ made rs copy ranges out pairs h e same table = λ r le. h r le ∙ e r ∙ ap₂
 
 pub returns : goal.returns
 returns c = λ x is.
-    let rs = c.self.inside.class.ranges.items in
-    let has = made rs _ _ c.in_ok-class.class.ranges.items _ c.in_ok-class.ensures c.in_ok-add_alike.ensures (c.in_ok-ranges.ensures.items ∙ c.deref.ensures.value) c.fold_pairs.ensures.table in
-    let e = ap (λ rs. has_char rs x) c.of_class.ensures ∙ has_char-ranks c.in_ok-class.class.ranges.items x is ∙ has (rank_of x) (rank_small x is) in
+    let rs = (arc_value c.self.inside.class).ranges.items in
+    let has = made rs _ _ c.in_ok-class.class.ranges.items _ c.in_ok-class.ensures (rw c.deref-old.ensures at c.in_ok-add_alike.ensures) (rw c.deref-old.ensures at (c.in_ok-ranges.ensures.items ∙ c.deref.ensures.value)) c.fold_pairs.ensures.table in
+    let e = ap (λ rs. has_char rs x) c.in_ok-set.ensures ∙ has_char-ranks c.in_ok-class.class.ranges.items x is ∙ has (rank_of x) (rank_small x is) in
     let both = alike_is rs x is in
     decides _ c.args.self.now x (
-    subst (λ v. IsTrue (has_char c.of_class.result x) ↔ HasAlike v x) c.self.view_is
+    subst (λ v. IsTrue (has_char c.in_ok-set.set x) ↔ HasAlike v x) c.self.view_is
     ((λ h. both.0 (sym e ∙ h)), (λ h. e ∙ both.1 h)))
 
 pub of_class-requires : goal.of_class-requires
 of_class-requires c = AreRanks-of _ _ c.in_ok-class.class.canonical
-    (made _ _ _ c.in_ok-class.class.ranges.items _ c.in_ok-class.ensures c.in_ok-add_alike.ensures (c.in_ok-ranges.ensures.items ∙ c.deref.ensures.value) c.fold_pairs.ensures.table)
+    (made _ _ _ c.in_ok-class.class.ranges.items _ c.in_ok-class.ensures (rw c.deref-old.ensures at c.in_ok-add_alike.ensures) (rw c.deref-old.ensures at (c.in_ok-ranges.ensures.items ∙ c.deref.ensures.value)) c.fold_pairs.ensures.table)
     (ranks_alike _ c.self.invariant.bounded)

@@ -25,7 +25,7 @@ loop-i-preserved c =
 
 pub returns : goal.returns
 returns c = λ x is.
-    ap (λ rs. has_char rs x) c.of_class.ensures ∙ has_char-ranks c.in_ok-class.class.ranges.items x is ∙ c.in_ok-class.ensures (rank_of x) (rank_small x is) ∙ c.loop-i.invariant.0 x is
+    ap (λ rs. has_char rs x) c.in_ok-set.ensures ∙ has_char-ranks c.in_ok-class.class.ranges.items x is ∙ c.in_ok-class.ensures (rank_of x) (rank_small x is) ∙ c.loop-i.invariant.0 x is
     ∙ ap (λ l. in_ranges l x) (take_all _ _ c.loop-i-test.false)
 
 pub of_class-requires : goal.of_class-requires

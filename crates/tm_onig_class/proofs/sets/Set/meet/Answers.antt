@@ -1,4 +1,5 @@
 use Rattle.std.proofs.Common.{ap, ap₂, sym, ◌∙◌, ◌&&◌}
+use Rattle.std.specs.Arc.{arc_value}
 use Rattle.tm_onig_class.specs.Ranks.{rank_of}
 use Rattle.tm_onig_class.specs.Members.{has_char}
 use Rattle.tm_onig_class.proofs.Members.{has_char-ranks, rank_small, AreRanks-of, ranks_and}
@@ -6,10 +7,10 @@ use Rattle.tm_onig_class.proofs.sets.Set.meet.Goals as goal
 
 pub returns : goal.returns
 returns c = λ x is.
-    ap (λ rs. has_char rs x) c.of_class.ensures ∙ has_char-ranks c.in_ok-class.class.ranges.items x is
-    ∙ c.in_ok-class.ensures (rank_of x) (rank_small x is)
-    ∙ ap₂ ◌&&◌ (sym (has_char-ranks c.self.inside.class.ranges.items x is) ∙ ap (λ rs. has_char rs x) c.self.view_is)
-    (sym (has_char-ranks c.other.inside.class.ranges.items x is) ∙ ap (λ rs. has_char rs x) c.other.view_is)
+    ap (λ rs. has_char rs x) c.in_ok-set.ensures ∙ has_char-ranks c.in_ok-class.class.ranges.items x is
+    ∙ (rw (c.deref.ensures, c.deref-2.ensures) at (c.in_ok-class.ensures (rank_of x) (rank_small x is)))
+    ∙ ap₂ ◌&&◌ (sym (has_char-ranks (arc_value c.self.inside.class).ranges.items x is) ∙ ap (λ rs. has_char rs x) c.self.view_is)
+    (sym (has_char-ranks (arc_value c.other.inside.class).ranges.items x is) ∙ ap (λ rs. has_char rs x) c.other.view_is)
 
 pub of_class-requires : goal.of_class-requires
-of_class-requires c = AreRanks-of _ _ c.in_ok-class.class.canonical c.in_ok-class.ensures (ranks_and _ _ c.self.invariant.bounded)
+of_class-requires c = AreRanks-of _ _ c.in_ok-class.class.canonical (rw (c.deref.ensures, c.deref-2.ensures) at c.in_ok-class.ensures) (ranks_and _ _ c.self.invariant.bounded)

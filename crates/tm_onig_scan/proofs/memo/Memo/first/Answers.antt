@@ -1,4 +1,4 @@
-use Rattle.std.proofs.Common.{◌≡◌, ℕ, ◌+◌, ◌-◌, List, Option, length, sym, subst}
+use Rattle.std.proofs.Common.{ℕ, ◌+◌, ◌-◌, List, Option, length, sym, subst}
 use Rattle.std.specs.Option.{option_copied}
 use Rattle.std.specs.Prelude.{Result}
 use Rattle.tm_onig_class.specs.Tree.{Tree}
@@ -6,7 +6,7 @@ use Rattle.tm_onig_search.specs.Outcomes.{Caps}
 use Rattle.tm_onig_search.specs.Places.{subject}
 use Rattle.tm_onig_vm.specs.declared.fault.FindFault.{FindFault}
 use Rattle.tm_onig_scan.specs.Memo.{MemoOf, sought}
-use Rattle.tm_onig_scan.specs.inner.MemoView.{searched, memo_of}
+use Rattle.tm_onig_scan.specs.inner.MemoView.{searched}
 use Rattle.tm_onig_scan.specs.Pass.{Tries, pass_from}
 use Rattle.tm_onig_scan.proofs.Remembered.{searches_later, remembered, sought_is}
 use Rattle.tm_onig_scan.proofs.Tried.{plainly}

@@ -3,7 +3,7 @@ use Rattle.tm_onig_class.specs.Tree.{Tree, tree_of}
 use Rattle.tm_onig_parse.specs.Parsed.{parsed}
 use Rattle.tm_onig_parse.specs.inner.Views.{Gives}
 use Rattle.tm_onig_parse.proofs.Laws.{parsed_only, found_in, numbered_in, ordered_in}
-use Rattle.tm_onig_parse.proofs.parse.Goals as goal
+use Rattle.tm_onig_parse.proofs.parse_with.Goals as goal
 
 read_text : (c : goal.After-read) → Gives tree_of c.read.result (parsed c.args.text.now)
 read_text c = subst (λ (t : List ℕ). Gives tree_of c.read.result (parsed t)) c.as_slice.ensures c.read.ensures
