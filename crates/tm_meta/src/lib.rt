@@ -18,7 +18,6 @@ ghost use Rattle.tm_meta.specs.Metadata.{metadata_of};
 pub mod fields;
 pub mod metadata;
 mod threads;
-mod words;
 
 /// The leftmost word decides a scope's token type.
 pub fn leftmost_word()

@@ -7,7 +7,6 @@ ghost use Rattle.std.specs.Prelude.{◌≡◌, ◌<◌, ◌≤◌, ◌-◌, ◌=
 ghost use Rattle.tm_defs.specs.Tables.{path_at};
 ghost use Rattle.tm_meta.specs.Metadata.{in_word, stands_alone, type_at, decided_type, packed, metadata_of};
 
-use crate::words::may_begin;
 use std::alloc::AllocError;
 use tm_defs::frames::ScopeList;
 use tm_defs::tables::States;
@@ -49,7 +48,7 @@ fn alone(word: &[char], scope: &[char], place: usize) -> bool
     requires { place ≤ length scope.now }
     ensures { result ≡ stands_alone word.now scope.now place }
 {
-    if !may_begin(word, scope, place) || !scope[place..].starts_with(word) {
+    if !scope[place..].starts_with(word) {
         return false;
     }
     if place != 0 && word_at(scope, place - 1) {
@@ -58,24 +57,21 @@ fn alone(word: &[char], scope: &[char], place: usize) -> bool
     !word_at(scope, place + word.len())
 }
 
-/// The token type of the word that stands alone at a place.
-fn type_of(scope: &[char], place: usize) -> Option<TokenType>
+/// The token type of the word that stands alone at a place. Its first letter says which word it can be.
+pub fn type_of(scope: &[char], place: usize) -> Option<TokenType>
     requires { place ≤ length scope.now }
     ensures { result ≡ type_at scope.now place }
 {
-    if alone(&COMMENT, scope, place) {
-        return Some(TokenType::Comment);
+    let Some(first) = scope.get(place) else {
+        return None;
+    };
+    match *first {
+        'c' if alone(&COMMENT, scope, place) => Some(TokenType::Comment),
+        's' if alone(&STRING, scope, place) => Some(TokenType::Text),
+        'r' if alone(&REGEX, scope, place) => Some(TokenType::Regex),
+        'm' if alone(&EMBEDDED, scope, place) => Some(TokenType::Other),
+        _ => None,
     }
-    if alone(&STRING, scope, place) {
-        return Some(TokenType::Text);
-    }
-    if alone(&REGEX, scope, place) {
-        return Some(TokenType::Regex);
-    }
-    if alone(&EMBEDDED, scope, place) {
-        return Some(TokenType::Other);
-    }
-    None
 }
 
 /// The same where it is known whether a word's character stands before the place: behind one no word begins.

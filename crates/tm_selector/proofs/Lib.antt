@@ -4,3 +4,4 @@ pub mod Texts
 pub mod Depths
 pub mod Reading
 pub mod Paths
+pub mod Begins

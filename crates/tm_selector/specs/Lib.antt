@@ -3,3 +3,4 @@ pub mod Tokens
 pub mod Syntax
 pub mod Selector
 pub mod Walk
+pub mod Grammar

@@ -35,13 +35,11 @@ impl Scopes for ScopePath {
 pub fn covers(name: &[char], scope: &[char]) -> bool
     ensures { result ≡ covers name.now scope.now }
 {
-    if !scope.starts_with(name) {
-        return false;
-    }
-    match scope.get(name.len()) {
+    let ends_a_part = match scope.get(name.len()) {
         Some(c) => *c == '.',
         None => true,
-    }
+    };
+    ends_a_part && scope.starts_with(name)
 }
 
 fn is_covered<S: Scopes>(scopes: &S, name: &[char], place: usize) -> bool
