@@ -43,9 +43,11 @@ mutual
   fit-operand name b g = (refl, (refl, refl))
   fit-operand (minus o) b g = (refl, fit-operand o Operator g)
   fit-operand (group {xs} h) b g =
-      let up : g + 1 ≡ suc g = omega arith in
-      (refl, subst (λ (n : ℕ). AreFit Operator n (xs ++ Mark Close ∷ []) Operand g) (sym up)
-      (fit-append xs (Mark Close ∷ []) Operator (suc g) Operand (suc g) Operand g (fit-group h Operator g) (close-fits g, (refl, omega arith))))
+      let up : g + 1 ≡ suc g = omega arith in (
+        refl,
+        subst (λ (n : ℕ). AreFit Operator n (xs ++ Mark Close ∷ []) Operand g) (sym up)
+            (fit-append xs (Mark Close ∷ []) Operator (suc g) Operand (suc g) Operand g (fit-group h Operator g) (close-fits g, (refl, omega arith))),
+      )
 
   fit-conjunction : {ts : List Token} → IsConjunction ts → (b : Behind) (g : ℕ) → AreFit b g ts Operand g
   fit-conjunction (one o) b g = fit-operand o b g
@@ -353,7 +355,7 @@ pub selector-stands : (tokens : List Token) → IsSelector tokens → closed (tr
 selector-stands tokens s =
     let f : AreFit Start 0 tokens Operand 0 = fit-selector s in
     let all : fitting Start 0 tokens ≡ length tokens =
-        omega (arith, fitting-within Start 0 tokens, reach (length tokens) tokens [] Start 0 Operand 0 (subst (λ (ts : List Token). AreFit Start 0 ts Operand 0) (sym (append-nil (take (length tokens) tokens) ∙ take-all tokens)) f) (omega arith)) in
+    omega (arith, fitting-within Start 0 tokens, reach (length tokens) tokens [] Start 0 Operand 0 (subst (λ (ts : List Token). AreFit Start 0 ts Operand 0) (sym (append-nil (take (length tokens) tokens) ∙ take-all tokens)) f) (omega arith)) in
     let whole : kept tokens ≡ tokens = ap (λ n. take n tokens) all ∙ take-all tokens in
     ap (λ ts. closed (trimmed ts)) whole ∙ ap closed (untrimmed tokens Start 0 0 f)
     ∙ ap (λ n. tokens ++ replicate n (Mark Close)) (groups-fit tokens Start 0 Operand 0 f) ∙ append-nil tokens

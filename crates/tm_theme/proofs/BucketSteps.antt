@@ -41,5 +41,6 @@ last-none scope (suc n) place e = ap (option_or (type_at scope place)) (last-non
 pub types-first : (scope : List ℕ) (place : ℕ) (before now : Option TokenType) → place ≡ 0 → before ≡ leftmost_type scope (place + 1) (length scope - place) →
     now ≡ option_or (type_at scope 0) before → now ≡ decided_type scope
 types-first scope zero before now none behind is =
-    is ∙ ap (option_or (type_at scope 0)) behind ∙ last-none scope (length scope) 0 (omega arith)
+    let whole : length scope - 0 ≡ length scope = omega arith in
+    is ∙ ap (option_or (type_at scope 0)) (behind ∙ ap (leftmost_type scope (0 + 1)) whole) ∙ last-none scope (length scope) 0 (omega arith)
 types-first scope (suc place) before now none behind is = absurd (omega (arith, none))

@@ -13,34 +13,24 @@ known-append : (all : List Alternative) (above : List (List ℕ)) (style : Style
 known-append all above style [] ys = refl
 known-append all above style (x ∷ xs) ys = known-append all above (with_known_one above style (alternative_at all x)) xs ys
 
+first-fits : (b : Bool) (piece : List ℕ) (above words : List (List ℕ)) → is_first piece words ≡ b → fits piece above words ≡ (b && parents_match above words)
+first-fits true piece above [] e = refl
+first-fits false piece above [] e = refl
+first-fits b piece above (w ∷ ws) e = ap (λ c. c && climb ws above (Some (length above))) e
+
 known-bucket : (all : List Alternative) (piece : List ℕ) (above : List (List ℕ)) (style : Style) (bucket : List ℕ) →
     with_bucket all piece above style bucket ≡ with_known all above style (bucket_places all piece bucket)
 known-bucket all piece above style [] = refl
-known-bucket all piece above style (p ∷ more) = go (alternative_at all p).words refl
+known-bucket all piece above style (p ∷ more) = go (λ s. known-bucket all piece above s more) (is_first piece (alternative_at all p).words) refl
   where
-    go : (words : List (List ℕ)) → (alternative_at all p).words ≡ words →
-        with_bucket all piece above style (p ∷ more) ≡ with_known all above style (bucket_places all piece (p ∷ more))
-    go words e = by (is_first piece words) refl
-      where
-        first : (b : Bool) (ws : List (List ℕ)) → is_first piece ws ≡ b → fits piece above ws ≡ (b && parents_match above ws)
-        first b [] f = refl-false b
-          where
-            refl-false : (c : Bool) → false ≡ (c && false)
-            refl-false true = refl
-            refl-false false = refl
-        first b (w ∷ ws) f = ap (λ c. c && climb ws above (Some (length above))) f
-
-        by : (b : Bool) → is_first piece words ≡ b → with_bucket all piece above style (p ∷ more) ≡ with_known all above style (bucket_places all piece (p ∷ more))
-        by true f =
-            let fit : fits piece above (alternative_at all p).words ≡ parents_match above (alternative_at all p).words = first true (alternative_at all p).words (ap (is_first piece) e ∙ f) in
-            ap (λ (b : Bool). with_bucket all piece above (if b then kept style (alternative_at all p).style else style) more) fit
-            ∙ known-bucket all piece above (with_known_one above style (alternative_at all p)) more
-            ∙ sym (ap (λ (b : Bool). with_known all above style (if b then p ∷ bucket_places all piece more else bucket_places all piece more)) (ap (is_first piece) e ∙ f))
-        by false f =
-            let fit : fits piece above (alternative_at all p).words ≡ false = first false (alternative_at all p).words (ap (is_first piece) e ∙ f) in
-            ap (λ (b : Bool). with_bucket all piece above (if b then kept style (alternative_at all p).style else style) more) fit
-            ∙ known-bucket all piece above style more
-            ∙ sym (ap (λ (b : Bool). with_known all above style (if b then p ∷ bucket_places all piece more else bucket_places all piece more)) (ap (is_first piece) e ∙ f))
+    go : ((s : Style) → with_bucket all piece above s more ≡ with_known all above s (bucket_places all piece more)) → (b : Bool) → is_first piece (alternative_at all p).words ≡ b →
+        with_bucket all piece above style (p ∷ more) ≡ with_known all above style (if b then p ∷ bucket_places all piece more else bucket_places all piece more)
+    go rest true f =
+        ap (λ (b : Bool). with_bucket all piece above (if b then kept style (alternative_at all p).style else style) more) (first-fits true piece above (alternative_at all p).words f)
+        ∙ rest (with_known_one above style (alternative_at all p))
+    go rest false f =
+        ap (λ (b : Bool). with_bucket all piece above (if b then kept style (alternative_at all p).style else style) more) (first-fits false piece above (alternative_at all p).words f)
+        ∙ rest style
 
 known-piece : (all : List Alternative) (buckets above : List (List ℕ)) (scope : List ℕ) (style : Style) (end : ℕ) →
     with_piece all buckets above scope style end ≡ with_known all above style (piece_places all buckets scope end)

@@ -210,12 +210,7 @@ fn with_character<S: Scopes>(
 }
 
 /// What a scope below others says, in one pass over its characters from the last to the first.
-fn said_of<S: Scopes>(
-    all: &[Alternative],
-    buckets: &[Bucket],
-    above: &S,
-    scope: &[char],
-) -> Said
+fn said_of<S: Scopes>(all: &[Alternative], buckets: &[Bucket], above: &S, scope: &[char]) -> Said
     requires { 0 < length buckets.now }
     ensures style { result.style ≡ found_style all.now buckets.now (S.names above.now) scope.now }
     ensures token_type { result.token_type ≡ decided_type scope.now }
@@ -426,12 +421,7 @@ fn with_known_one<S: Scopes>(a: &Alternative, above: &S, style: Style) -> Style
     }
 }
 
-fn with_known_place<S: Scopes>(
-    all: &[Alternative],
-    place: usize,
-    above: &S,
-    style: Style,
-) -> Style
+fn with_known_place<S: Scopes>(all: &[Alternative], place: usize, above: &S, style: Style) -> Style
     ensures { result ≡ with_known_one (S.names above.now) style (alternative_at all.now place) }
 {
     match all.get(place) {
@@ -510,12 +500,13 @@ impl Table {
     pub fn places_of(&self, alloc: Global, scope: &Name) -> Result<Vec<usize>, OutOfMemory>
         ensures { IfOk result (λ places. AreFor self.now scope.now places.items) }
     {
-        places_of(
+        let places = places_of(
             alloc,
             self.all.as_slice(),
             self.buckets.as_slice(),
             scope.as_slice(),
-        )
+        )?;
+        Ok(places)
     }
 
     /// The look of a scope below others, where that above it is known, and the places of the alternatives for the scope.

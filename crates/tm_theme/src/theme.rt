@@ -1,5 +1,5 @@
 //! Themes, and the metadata of scopes by them.
-ghost use Rattle.std.specs.Prelude.{◌≡◌, ◌≤◌, ◌×◌, ℕ, List, [], IfOk};
+ghost use Rattle.std.specs.Prelude.{◌≡◌, ◌≤◌, ℕ, List, [], IfOk};
 ghost use Rattle.tm_meta.specs.Metadata.{type_bits};
 ghost use Rattle.tm_theme.specs.Style.{IsSmall, AreSmall};
 ghost use Rattle.tm_theme.specs.Known.{IsKnown};
@@ -237,7 +237,9 @@ impl Theme {
         Parts {
             language: known.language.unwrap_or(parts.language),
             token_type: known.token_type.unwrap_or(parts.token_type),
-            look: self.alternatives.styled_by(known.places.as_slice(), above, parts.look),
+            look: self
+                .alternatives
+                .styled_by(known.places.as_slice(), above, parts.look),
         }
     }
 }
