@@ -30,6 +30,7 @@ fn answer_of(alloc: Global, case: &Case) -> Result<String, CaseFault> {
         "rules" => themes::counted(alloc, case),
         "below" => times::below(alloc, case),
         "meta_times" => times::meta_times(alloc, case),
+        "known_times" => times::known_times(alloc, case),
         "pushed_times" => times::pushed_times(alloc, case),
         "pack" => words::packed(alloc, case),
         "unpack" => words::unpacked(alloc, case),

@@ -130,6 +130,44 @@ pub fn pushed_times(alloc: Global, case: &Case) -> Result<String, CaseFault> {
     }
 }
 
+/// The parts of a path, whose last name is known and put below the others so many times.
+fn known_parts_times(
+    alloc: Global,
+    theme: &Theme,
+    rules: &MetaRules,
+    names: &[Name],
+    times: u64,
+) -> Result<Parts, CaseFault> {
+    let [above @ .., scope] = names else {
+        return Ok(theme.base());
+    };
+    let parts = parts_of(theme, rules, above);
+    let above = First { all: above };
+    let Ok(known) = theme.known(alloc, rules, scope) else {
+        return Err(CaseFault::OutOfMemory);
+    };
+    let mut below = parts;
+    for _ in 0..times {
+        below = theme.pushed_known(&known, &above, parts);
+    }
+    Ok(below)
+}
+
+/// `known_times TIMES, FILE, LANGUAGES, PATH`: the same, where what the theme says of the last name is found once.
+pub fn known_times(alloc: Global, case: &Case) -> Result<String, CaseFault> {
+    let times = case.number(0)?;
+    let file = file_of(alloc, case.text(1)?)?;
+    let rules = rules_of(alloc, case, 2)?;
+    let path = path_of(alloc, case.text(3)?)?;
+    match Theme::from_slice(alloc, file.as_bytes()) {
+        Ok(theme) => printed(
+            alloc,
+            known_parts_times(alloc, &theme, &rules, path.as_slice(), times)?,
+        ),
+        Err(fault) => told(alloc, &fault),
+    }
+}
+
 /// The word of the last of these names below the others.
 fn last_word(
     alloc: Global,

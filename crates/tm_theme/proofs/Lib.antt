@@ -5,3 +5,4 @@ pub mod Utf8Values
 pub mod Strongest
 pub mod Lookups
 pub mod BucketSteps
+pub mod Known

@@ -507,11 +507,11 @@ drop-all : (all : List Alternative) → drop (length all) all ≡ []
 drop-all [] = refl
 drop-all (a ∷ all) = drop-all all
 
-pub knows-none : (all : List Alternative) (count : ℕ) → Knows all (drop (length all) all) (no_buckets (count + 1))
-knows-none all count = record {
-  some = let e : length (no_buckets (count + 1)) ≡ count + 1 = length-replicate (count + 1) [] in omega (arith, e);
-  sorted = λ i. subst (IsSorted all) (sym (empty-bucket (count + 1) i)) tt;
-  finds = λ t above scope. empty-found all t (count + 1) above scope (length scope + 1) ∙ ap (strongest t above scope) (sym (drop-all all));
+pub knows-none : (all : List Alternative) (count : ℕ) → 0 < count → Knows all (drop (length all) all) (no_buckets count)
+knows-none all count lt = record {
+  some = let e : length (no_buckets count) ≡ count = length-replicate count [] in omega (arith, lt, e);
+  sorted = λ i. subst (IsSorted all) (sym (empty-bucket count i)) tt;
+  finds = λ t above scope. empty-found all t count above scope (length scope + 1) ∙ ap (strongest t above scope) (sym (drop-all all));
 }
 
 unset-value : (t : Attribute) (o : Option ℕ) → option_or (value_of t unset) o ≡ o

@@ -1,9 +1,12 @@
 -- The parts of a path, by its last scope; and that they are small.
 use Rattle.std.proofs.Common.{◌≡◌, ℕ, ◌≤◌, Bool, true, false, List, [], ◌∷◌, ◌++◌, Option, Some, None, refl, ap, sym, subst, ◌∙◌, append_assoc, if◌then◌else◌}
 use Rattle.std.specs.Prelude.{unwrap_or, option_and_then}
+use Rattle.tm_meta.specs.declared.metadata.TokenType.{TokenType}
 use Rattle.tm_theme.specs.declared.style.Look.{Look}
 use Rattle.tm_theme.specs.declared.style.Alternative.{Alternative}
 use Rattle.tm_theme.specs.declared.theme.Parts.{Parts}
+use Rattle.tm_theme.specs.declared.theme.KnownScope.{KnownScope}
+use Rattle.tm_theme.specs.Known.{IsKnown}
 use Rattle.tm_theme.specs.Style.{Attribute, Font, Foreground, Background, value_of, is_weaker, sets, stronger, strongest, styled, IsSmall, IsAtMost, IsSmallStyle, AreSmall}
 use Rattle.tm_theme.specs.Theme.{base_parts, pushed, parts_from, IsByLast}
 
@@ -83,6 +86,15 @@ parts-small alternatives languages above (scope ∷ path) parts h small =
 pub pushed-small : (r parts : Parts) (alternatives : List Alternative) (languages : List (List ℕ × ℕ)) (above : List (List ℕ)) (scope : List ℕ) → r ≡ pushed alternatives languages above scope parts →
     AreSmall alternatives → IsSmall parts.look → IsSmall r.look
 pushed-small r parts alternatives languages above scope is h small = subst (λ (p : Parts). IsSmall p.look) (sym is) (styled-small alternatives above scope parts.look h small)
+
+-- a known name, below others
+pub known-pushed : (alternatives : List Alternative) (languages : List (List ℕ × ℕ)) (above : List (List ℕ)) (scope : List ℕ) (known : KnownScope) (parts : Parts) (language : ℕ) (token_type : TokenType) (look : Look) →
+    IsKnown alternatives languages scope known → language ≡ unwrap_or known.language parts.language → token_type ≡ unwrap_or known.token_type parts.token_type → look ≡ styled alternatives above scope parts.look →
+    ◌≡◌ {A = Parts} (record { language = language; token_type = token_type; look = look }) (pushed alternatives languages above scope parts)
+known-pushed alternatives languages above scope known parts language token_type look k l t is =
+    let kl = k.language in
+    let kt = k.token_type in
+    cc
 
 pub all-small : (r base : Parts) (alternatives : List Alternative) (languages : List (List ℕ × ℕ)) (path : List (List ℕ)) → r ≡ parts_from alternatives languages [] path base →
     AreSmall alternatives → IsSmall base.look → IsSmall r.look

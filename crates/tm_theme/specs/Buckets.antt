@@ -3,6 +3,7 @@ use Rattle.std.specs.Prelude.{◌≡◌, ℕ, zero, suc, ◌+◌, ◌-◌, ◌*�
 use Rattle.std.specs.Option.{option_or}
 use Rattle.std.specs.Str.{bytes_eq}
 use Rattle.tm_selector.specs.Names.{ends_a_part}
+use Rattle.tm_theme.specs.declared.style.Look.{Look}
 use Rattle.tm_theme.specs.declared.style.Style.{Style}
 use Rattle.tm_theme.specs.declared.style.Alternative.{Alternative}
 use Rattle.tm_theme.specs.Style.{Attribute, value_of, is_weaker, climb, setting}
@@ -65,6 +66,14 @@ with_pieces all buckets above scope style (suc end) = with_pieces all buckets ab
 
 abbrev pub found_style : List Alternative → List (List ℕ) → List (List ℕ) → List ℕ → Style
 found_style all buckets above scope = with_pieces all buckets above scope unset (length scope + 1)
+
+-- the look with what a style sets
+abbrev pub with_style : Look → Style → Look
+with_style look style = record {
+  font = unwrap_or style.font look.font;
+  foreground = unwrap_or style.foreground look.foreground;
+  background = unwrap_or style.background look.background;
+}
 
 -- the place before the first in the bucket that is weaker
 abbrev pub with_place : List Alternative → ℕ → List ℕ → List ℕ

@@ -6,3 +6,5 @@ pub mod Fonts
 pub mod Answer
 pub mod Strongest
 pub mod Buckets
+pub mod Places
+pub mod Known

@@ -1,7 +1,8 @@
 //! Themes, and the metadata of scopes by them.
-ghost use Rattle.std.specs.Prelude.{◌≡◌, ◌≤◌, [], IfOk};
+ghost use Rattle.std.specs.Prelude.{◌≡◌, ◌≤◌, ℕ, List, [], IfOk};
 ghost use Rattle.tm_meta.specs.Metadata.{type_bits};
 ghost use Rattle.tm_theme.specs.Style.{IsSmall, AreSmall};
+ghost use Rattle.tm_theme.specs.Known.{IsKnown};
 ghost use Rattle.tm_theme.specs.Theme.{theme_rules, plain_theme, base_parts, pushed, parts_from, metadata_by, word_of};
 
 use crate::buckets::Table;
@@ -39,6 +40,18 @@ pub struct Parts {
     pub language: u8,
     pub token_type: TokenType,
     pub look: Look,
+}
+
+/// What a theme and the languages say of one name, whatever stands above it: found once for each name, it makes a step
+/// short.
+#[derive(Drop)]
+pub struct KnownScope {
+    /// The language that the name begins.
+    pub language: Option<u8>,
+    /// The token type that the name decides.
+    pub token_type: Option<TokenType>,
+    /// The alternatives of the theme whose scope matches the name, by their places, the strongest first.
+    pub places: Vec<usize>,
 }
 
 /// The first scopes of a path.
@@ -81,10 +94,11 @@ fn pushed<S: Scopes>(
 ) -> Parts
     ensures { result ≡ pushed alternatives.now languages.now (S.names above.now) scope.now parts }
 {
+    let (token_type, look) = alternatives.styled(above, scope, parts.token_type, parts.look);
     Parts {
         language: language_of(languages, scope).unwrap_or(parts.language),
-        token_type: decided(scope.as_slice()).unwrap_or(parts.token_type),
-        look: alternatives.styled(above, scope, parts.look),
+        token_type,
+        look,
     }
 }
 
@@ -194,5 +208,38 @@ impl Theme {
             self.base,
         );
         word_of(parts, is_balanced(rules.unbalanced.as_slice(), path))
+    }
+
+    /// What this theme and the languages say of a name.
+    pub fn known(
+        &self,
+        alloc: Global,
+        rules: &MetaRules,
+        scope: &Name,
+    ) -> Result<KnownScope, OutOfMemory>
+        ensures { IfOk result (λ known. IsKnown self.now.alternatives rules.now.languages.items scope.now known) }
+    {
+        let places = self.alternatives.places_of(alloc, scope)?;
+        Ok(KnownScope {
+            language: language_of(rules.languages.as_slice(), scope),
+            token_type: decided(scope.as_slice()),
+            places,
+        })
+    }
+
+    /// The parts of a known name below others, where those of the scope above it are known. It takes no memory.
+    pub fn pushed_known<S: Scopes>(&self, known: &KnownScope, above: &S, parts: Parts) -> Parts
+        ensures is { (languages : List (List ℕ × ℕ)) (scope : List ℕ) → IsKnown self.now.alternatives languages scope known.now →
+            result ≡ pushed self.now.alternatives languages (S.names above.now) scope parts }
+        ensures small { (languages : List (List ℕ × ℕ)) (scope : List ℕ) → IsKnown self.now.alternatives languages scope known.now →
+            IsSmall parts.look → IsSmall result.look }
+    {
+        Parts {
+            language: known.language.unwrap_or(parts.language),
+            token_type: known.token_type.unwrap_or(parts.token_type),
+            look: self
+                .alternatives
+                .styled_by(known.places.as_slice(), above, parts.look),
+        }
     }
 }

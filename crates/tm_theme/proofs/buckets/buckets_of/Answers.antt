@@ -7,7 +7,7 @@ pub loop-place-init : goal.loop-place-init
 loop-place-init c =
     let all = c.args.all.now in
     record {
-      known = subst (Knows all (drop (length all) all)) (sym c.in_ok-buckets.ensures) (knows-none all (length all));
+      known = subst (Knows all (drop (length all) all)) (sym c.in_ok-buckets.ensures) (knows-none all c.bucket_count.result c.bucket_count.ensures);
       within = omega arith;
     }
 
