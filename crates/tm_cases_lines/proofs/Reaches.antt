@@ -1,7 +1,7 @@
 -- A piece that ends behind a place is painted that far.
 use Rattle.std.proofs.Common.{ℕ, zero, suc, ◌<◌, ◌≤◌, List, [], ◌∷◌, length, get_or, arith}
-use Rattle.tm_line_run.specs.declared.painter.Painted.{Painted}
-use Rattle.tm_line_run.specs.Painted.{furthest}
+use Rattle.tm_line_turns.specs.declared.painter.Painted.{Painted}
+use Rattle.tm_line_turns.specs.Painted.{furthest}
 
 pub reach : (ps : List Painted) (i : ℕ) (d : Painted) (n : ℕ) → i < length ps → n ≤ (get_or ps i d).end → n ≤ furthest ps
 reach [] i d n lt le = absurd (omega (arith, lt))

@@ -1,6 +1,6 @@
 //! Lines of one grammar, and the pieces and metadata of lines.
 ghost use Rattle.std.specs.Prelude.{◌≡◌, ◌<◌, ◌≤◌, IsTrue};
-ghost use Rattle.tm_line_run.specs.Painted.{furthest};
+ghost use Rattle.tm_line_turns.specs.Painted.{furthest};
 
 use crate::callers::tokenized;
 use crate::files::text_of;
@@ -17,7 +17,7 @@ use tm_defs::tokenizer::LineFault;
 use tm_defs::tokens::Token;
 use tm_grammar::grammar::RawGrammar;
 use tm_line::tokenizer::{Parts, Setting};
-use tm_line_run::painter::{Painted, tokens_of};
+use tm_line_turns::painter::{Painted, tokens_of};
 use tm_meta::metadata::{TokenType, base_metadata, decided};
 use tm_rules::grammars::Grammars;
 use tm_state::states::StateTable;

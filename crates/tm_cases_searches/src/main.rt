@@ -21,6 +21,7 @@ use tm_cases::{Case, CaseFault, one_line};
 fn answer_of_text(alloc: Global, case: &Case) -> Result<String, CaseFault> {
     match case.command() {
         "template" => templates::template(alloc, case),
+        "fixed" => templates::fixed(alloc, case),
         "end" => templates::end(alloc, case),
         "refers" => templates::refers(alloc, case),
         _ => Err(CaseFault::NoCommand),

@@ -11,9 +11,9 @@ use std::alloc::Global;
 use tm_cases::{Case, CaseFault};
 use tm_defs::caps::Caps;
 use tm_defs::memory::OutOfMemory;
-use tm_defs::texts::{Line, Name, ScopePath};
+use tm_defs::texts::{Name, ScopePath};
 use tm_template::ends::{has_references, resolve};
-use tm_template::names::name_of;
+use tm_template::names::{fixed_names, name_of};
 
 /// Whether a group that is set lies within so many characters.
 fn is_within(count: usize, group: Option<(u32, u32)>) -> bool
@@ -56,12 +56,12 @@ fn groups(alloc: Global, text: &str) -> Result<Caps, CaseFault> {
 fn names_given(
     alloc: Global,
     template: &Name,
-    line: &Line,
+    line: &[char],
     caps: &Caps,
 ) -> Result<Option<ScopePath>, OutOfMemory>
     ensures { IfOk result (λ given. IfSome given (λ path. path ≡ names_of template.now line.now caps.now)) }
 {
-    if are_within(line.as_slice().len(), caps.as_slice()) {
+    if are_within(line.len(), caps.as_slice()) {
         Ok(Some(name_of(alloc, template, line, caps)?))
     } else {
         Ok(None)
@@ -72,12 +72,12 @@ fn names_given(
 fn end_given(
     alloc: Global,
     text: &Name,
-    line: &Line,
+    line: &[char],
     caps: &Caps,
 ) -> Result<Option<Name>, OutOfMemory>
     ensures { IfOk result (λ given. IfSome given (λ end. end ≡ resolved text.now line.now caps.now)) }
 {
-    if are_within(line.as_slice().len(), caps.as_slice()) {
+    if are_within(line.len(), caps.as_slice()) {
         Ok(Some(resolve(alloc, text, line, caps)?))
     } else {
         Ok(None)
@@ -106,14 +106,8 @@ fn push_name(alloc: Global, text: &mut String, name: &Name) -> Result<(), CaseFa
     Ok(())
 }
 
-/// `template TEMPLATE, LINE, GROUPS`: the names, with `|` between them.
-pub fn template(alloc: Global, case: &Case) -> Result<String, CaseFault> {
-    let template = name(alloc, case.text(0)?)?;
-    let line = Line::new(chars(alloc, case.text(1)?)?);
-    let caps = groups(alloc, case.text(2)?)?;
-    let path = names_given(alloc, &template, &line, &caps)
-        .or(Err(CaseFault::OutOfMemory))?
-        .ok_or(CaseFault::NoField)?;
+/// The names of a path, with `|` between them.
+fn text_of_path(alloc: Global, path: &ScopePath) -> Result<String, CaseFault> {
     let mut text = String::new(alloc);
     let mut first = true;
     for name in path.as_slice() {
@@ -126,12 +120,32 @@ pub fn template(alloc: Global, case: &Case) -> Result<String, CaseFault> {
     Ok(text)
 }
 
+/// `template TEMPLATE, LINE, GROUPS`: the names, with `|` between them.
+pub fn template(alloc: Global, case: &Case) -> Result<String, CaseFault> {
+    let template = name(alloc, case.text(0)?)?;
+    let line = chars(alloc, case.text(1)?)?;
+    let caps = groups(alloc, case.text(2)?)?;
+    let path = names_given(alloc, &template, line.as_slice(), &caps)
+        .or(Err(CaseFault::OutOfMemory))?
+        .ok_or(CaseFault::NoField)?;
+    text_of_path(alloc, &path)
+}
+
+/// `fixed TEMPLATE`: the names that it gives for every match, or `refers` where it refers to a group.
+pub fn fixed(alloc: Global, case: &Case) -> Result<String, CaseFault> {
+    let template = name(alloc, case.text(0)?)?;
+    match fixed_names(alloc, &template).or(Err(CaseFault::OutOfMemory))? {
+        Some(path) => text_of_path(alloc, &path),
+        None => Ok(format!(in alloc; "refers")?),
+    }
+}
+
 /// `end TEXT, LINE, GROUPS`: the text with what was captured.
 pub fn end(alloc: Global, case: &Case) -> Result<String, CaseFault> {
     let text = name(alloc, case.text(0)?)?;
-    let line = Line::new(chars(alloc, case.text(1)?)?);
+    let line = chars(alloc, case.text(1)?)?;
     let caps = groups(alloc, case.text(2)?)?;
-    let end = end_given(alloc, &text, &line, &caps)
+    let end = end_given(alloc, &text, line.as_slice(), &caps)
         .or(Err(CaseFault::OutOfMemory))?
         .ok_or(CaseFault::NoField)?;
     let mut given = String::new(alloc);

@@ -1,10 +1,6 @@
 pub mod Example
 pub mod Grammar
-pub mod Insides
-pub mod MadeEnds
-pub mod Ran
 pub mod Search
-pub mod Searched
 pub mod Setting
 pub mod Tokenizing
-pub mod Turned
+pub mod inner

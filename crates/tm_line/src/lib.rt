@@ -1,9 +1,8 @@
-//! A tokenizer of rules of patterns, one search after another.
+//! A tokenizer of rules of patterns, one scan after another.
 //!
-//! A line is tokenized turn by turn, as `tm_line_run` defines it: at each turn every candidate of the
-//! innermost open rule is searched (`search`), the case of the earliest is done on a table that holds
-//! scopes and states by number (`turn`), and what is painted becomes tokens in the end (`tokenizer`).
-//! Each search takes its steps from the line's budget.
+//! A line is tokenized turn by turn, as `tm_line_turns` defines it, by `tm_line_parts`; this crate says what its rules find
+//! and push (`rules`). At each turn all candidates of the innermost open rule, its end among them, are one scan
+//! (`search`), over a list that was made when the setting was (`prepared`). Each scan takes its steps from the line's budget.
 //!
 //! Take a rule 1 that matches `[0-9]` as string.t, and a rule 2 from `/*` to `*/` as comment.t with
 //! digits in it. The line `1 /*2` takes four turns, where all candidates of the open rule are searched:
@@ -19,36 +18,29 @@
 #![tactic(auto)]
 
 ghost use Rattle.std.specs.Prelude.{◌≡◌, ℕ, true, false, List};
-ghost use Rattle.tm_line_run.specs.Laws.{IsLineRun};
+ghost use Rattle.tm_line_turns.specs.Language.{IsRunAtEachDepth};
 ghost use Rattle.tm_defs.specs.declared.rules.Rule.{Rule};
-ghost use Rattle.tm_line.specs.Example.{candidates, rule_at, text};
-ghost use Rattle.tm_line.specs.Grammar.{rules_grammar};
-ghost use Rattle.tm_line.specs.Search.{earliest, searches_cost};
+ghost use Rattle.tm_onig_scan.specs.Winner.{earliest_winner, scan_cost};
+ghost use Rattle.tm_line.specs.Example.{found_at, patterns, text};
+ghost use Rattle.tm_line.specs.Grammar.{rules_language};
 
-mod begin;
-mod ends;
-mod found;
-mod inside;
 mod names;
-mod patterns;
-mod run;
+pub mod prepared;
+mod rules;
 mod search;
-mod starts;
-mod tables;
+mod texts;
 mod threads;
 pub mod tokenizer;
-mod turn;
-mod way;
 
 /// A line has exactly one outcome, whatever its rules.
 pub fn one_outcome()
-    ensures { (rules : List Rule) (text : List ℕ) → IsLineRun (rules_grammar rules text) }
+    ensures { (rules : List Rule) → IsRunAtEachDepth (rules_language rules) }
 {}
 
 /// The first two turns of the table at the head of this module, computed by the definitions.
 pub fn worked_searches()
-    ensures first { earliest text 0 true false candidates ≡ rule_at 1 0 1 }
-    ensures first_cost { searches_cost text 0 true false candidates ≡ 10 }
-    ensures next { earliest text 1 false false candidates ≡ rule_at 2 2 4 }
-    ensures next_cost { searches_cost text 1 false false candidates ≡ 11 }
+    ensures first { earliest_winner text 0 true false patterns ≡ found_at 0 0 1 }
+    ensures first_cost { scan_cost text 0 true false patterns ≡ 10 }
+    ensures next { earliest_winner text 1 false false patterns ≡ found_at 1 2 4 }
+    ensures next_cost { scan_cost text 1 false false patterns ≡ 11 }
 {}

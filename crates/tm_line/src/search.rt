@@ -1,34 +1,33 @@
-//! The search of the earliest candidate.
+//! The search of what is found first in an open rule.
 //!
-//! The starts of the rules inside an open rule are one pass over the text, and its end is one search more, each
-//! from the same position to its first match, and what the one leaves of the budget is the budget of the other.
-ghost use Rattle.std.specs.Prelude.{◌≡◌, ◌≤◌, ◌<◌, ◌^◌, ◌∷◌, [], ℕ, List, Some, length, option_map, slice_get};
+//! All candidates of the rule are one scan over the text. Where its end does not count, or was made at its begin, that
+//! stands in the list in place of the rule's own.
+ghost use Rattle.std.specs.Prelude.{◌≡◌, ◌≤◌, ◌<◌, ◌^◌, ℕ, List, Option, length, IfOk, option_map};
+ghost use Rattle.std.specs.Option.{option_copied};
 ghost use Rattle.tm_defs.specs.Tables.{IsFrameOf, frame_at};
-ghost use Rattle.tm_onig_parse.specs.Parsed.{parsed};
-ghost use Rattle.tm_onig_scan.specs.Rows.{AreCandidates};
-ghost use Rattle.tm_onig_scan.specs.Winner.{start_of, trees_of};
-ghost use Rattle.tm_line.specs.Insides.{starts_read};
-ghost use Rattle.tm_line.specs.MadeEnds.{AreMadeEnds};
-ghost use Rattle.tm_line.specs.Search.{candidates_in, earliest, end_of, end_text, found_as, own_end, searches_cost};
-ghost use Rattle.tm_line.specs.Searched.{Searches, earlier, earlier_in, end_with, starts_of};
+ghost use Rattle.tm_onig_class.specs.Tree.{Tree};
+ghost use Rattle.tm_onig_scan.specs.Asked.{put_in};
+ghost use Rattle.tm_onig_scan.specs.Winner.{earliest_winner, scan_cost, start_of};
+ghost use Rattle.tm_patcache.specs.Programs.{tree_in};
+ghost use Rattle.tm_rules.specs.Candidates.{flattened_candidates};
+ghost use Rattle.tm_line.specs.Search.{end_of, match_of, patterns_in, started, winner_in};
+ghost use Rattle.tm_line.specs.inner.Prepared.{StandsIn, end_place, replaced};
+ghost use Rattle.tm_line.specs.inner.Searched.{Searches};
 
-use crate::ends::{MadeEnd, made_end};
-use crate::found::Found;
-use crate::patterns::Patterns;
-use std::alloc::Global;
+use crate::prepared::{Inside, Prepared};
+use std::sync::Arc;
 use tm_defs::caps::Caps;
-use tm_defs::frames::Frame;
+use tm_defs::memory::OutOfMemory;
+use tm_defs::rules::Rule;
 use tm_defs::tables::States;
-use tm_defs::texts::Line;
-use tm_onig_scan::candidates::Candidates;
+use tm_defs::tokenizer::LineFault;
+use tm_line_parts::rules::Question;
+use tm_line_turns::found::{Match, Winner};
+use tm_onig_scan::asked::{Asked, Instead};
 use tm_onig_vm::fault::FindFault;
-
-/// Which of the places `\A` and `\G` a search allows.
-#[derive(Clone, Copy, Debug, PartialEq, Eq)]
-pub struct Anchors {
-    pub allow_a: bool,
-    pub allow_g: bool,
-}
+use tm_onig_vm::program::{Prog, Room};
+use tm_onig_vm::starts::Anchors;
+use tm_rules::candidate::Candidate;
 
 /// Start and end of the whole match.
 fn whole(caps: &Caps) -> (u32, u32)
@@ -41,205 +40,138 @@ fn whole(caps: &Caps) -> (u32, u32)
     }
 }
 
-/// A match, as that of a candidate.
-fn found_as(candidate: Option<u32>, caps: Caps) -> Found
-    ensures { result ≡ found_as candidate caps }
+fn match_of(caps: Caps) -> Match
+    ensures { result ≡ match_of caps }
 {
     let (start, end) = whole(&caps);
-    Found {
-        candidate,
+    Match {
         start: start as usize,
         end: end as usize,
-        caps,
+        groups: caps,
     }
 }
 
-/// What a scan found, as that of the candidate at its place: the rule with this one of the numbers, or the
-/// end where there are no numbers.
-fn candidate_at(numbers: &[u32], won: Option<(u32, Caps)>) -> Option<Found>
-    ensures { result ≡ option_map (λ w. found_as (slice_get numbers.now w.0) w.1) won }
+/// What the match of the pattern that starts a rule is.
+fn started(m: Match, n: u32, rule: Option<&Rule>) -> Winner
+    ensures { result ≡ started m n (option_copied rule.entry) }
 {
-    match won {
-        Some((place, caps)) => {
-            let rule = numbers.get(place as usize).copied();
-            Some(found_as(rule, caps))
+    match rule {
+        Some(Rule::Match { .. }) => Winner::Matches(n, m),
+        Some(Rule::BeginEnd { .. }) => Winner::Begins(n, m),
+        Some(Rule::BeginWhile { .. }) => Winner::Begins(n, m),
+        Some(Rule::Only { .. }) => Winner::Nothing,
+        None => Winner::Nothing,
+    }
+}
+
+impl Prepared {
+    /// What a scan found, which is that of a candidate by its place.
+    fn winner_in(&self, candidates: &[Candidate], won: Option<(u32, Caps)>) -> Winner
+        ensures { result ≡ winner_in self.now candidates.now won }
+    {
+        let Some((place, caps)) = won else {
+            return Winner::Nothing;
+        };
+        let m = match_of(caps);
+        match candidates.get(place as usize) {
+            Some(Candidate::Start(n)) => started(m, *n, self.rule(*n)),
+            Some(Candidate::End) => Winner::Ends(m),
+            None => Winner::Nothing,
         }
+    }
+
+    /// What stands in place of an open rule's own end: none where that counts, or where the rule has none.
+    fn end_instead<S: States>(
+        &self,
+        table: &S,
+        inside: &Inside,
+        asked: Question,
+    ) -> Result<Option<Option<Arc<Prog>>>, OutOfMemory>
+        requires { IsFrameOf (S.tables table.now) asked.frame }
+        ensures { let f = frame_at (S.tables table.now) asked.frame in
+            IfOk result (λ end. StandsIn self.now f asked.has_end inside.now.end_last (option_map tree_in end)) }
+    {
+        if inside.end_last.is_none() {
+            return Ok(None);
+        }
+        if !asked.has_end {
+            return Ok(Some(None));
+        }
+        match asked.frame.end {
+            Some(text) => Ok(Some(self.ends.get(table.text_of(text))?)),
+            None => Ok(None),
+        }
+    }
+
+    /// What is found first in an open rule.
+    pub(crate) fn search<S: States>(
+        &self,
+        room: &mut Room,
+        table: &S,
+        text: &[char],
+        asked: Question,
+        budget: &mut u64,
+    ) -> Result<Winner, FindFault>
+        requires frame { IsFrameOf (S.tables table.now) asked.frame }
+        requires at { asked.at ≤ length text.now }
+        requires small { length text.now < 2 ^ 31 }
+        ensures { let f = frame_at (S.tables table.now) asked.frame in
+            let ps = patterns_in self.now f asked.has_end in
+            Searches (winner_in self.now (flattened_candidates self.now f.rule) (earliest_winner text.now asked.at asked.first asked.anchored ps)) (scan_cost text.now asked.at asked.first asked.anchored ps) budget.old budget.new result }
+    {
+        let rule = asked.frame.rule;
+        let Some(inside) = self.inside(rule) else {
+            return Ok(Winner::Nothing);
+        };
+        let end = self.end_instead(table, inside, asked)?;
+        let it = Asked {
+            text,
+            anchors: Anchors {
+                first: asked.at,
+                allow_a: asked.first,
+                allow_g: asked.anchored,
+            },
+        };
+        let won = self.scanner.first_among(
+            self.alloc,
+            &inside.list,
+            instead_of(inside, &end),
+            it,
+            room,
+            budget,
+        )?;
+        Ok(self.winner_in(self.rules.candidates(rule), won))
+    }
+}
+
+/// Where the end stands among the candidates of a rule that has one.
+fn end_place(inside: &Inside) -> u32
+    requires { length inside.now.list.numbers.items < 2 ^ 32 }
+    ensures { result ≡ end_place inside.now.end_last (length inside.now.list.numbers.items) }
+{
+    match inside.end_last {
+        Some(true) => {
+            let count = inside.list.numbers.len() as u32;
+            if count == 0 { 0 } else { count - 1 }
+        }
+        Some(false) => 0,
+        None => 0,
+    }
+}
+
+/// What stands in the list of a rule for this search, if anything does.
+fn instead_of<'a>(inside: &Inside, end: &'a Option<Option<Arc<Prog>>>) -> Option<Instead<'a>>
+    requires { length inside.now.list.numbers.items < 2 ^ 32 }
+    ensures { (ps : List (Option Tree)) → put_in ps result ≡ replaced ps (end_place inside.now.end_last (length inside.now.list.numbers.items)) (option_map tree_in end.now) }
+{
+    match end {
+        Some(program) => Some(Instead {
+            place: end_place(inside),
+            program: match program {
+                Some(program) => Some(&**program),
+                None => None,
+            },
+        }),
         None => None,
     }
-}
-
-/// The earlier of two, the first on a tie.
-fn earlier_of(a: Option<Found>, b: Option<Found>) -> Option<Found>
-    ensures { result ≡ earlier a b }
-{
-    match (a, b) {
-        (None, b) => b,
-        (Some(a), None) => Some(a),
-        (Some(a), Some(b)) => if b.start < a.start { Some(b) } else { Some(a) },
-    }
-}
-
-/// The earlier of a start and of an end that is tried behind the starts or before them.
-fn earlier_in(end_last: bool, start: Option<Found>, end: Option<Found>) -> Option<Found>
-    ensures { result ≡ earlier_in end_last start end }
-{
-    if end_last {
-        earlier_of(start, end)
-    } else {
-        earlier_of(end, start)
-    }
-}
-
-/// The earliest start of these rules.
-fn earliest_start(
-    alloc: Global,
-    patterns: &Patterns,
-    starts: &Candidates,
-    text: &Line,
-    at: usize,
-    anchors: Anchors,
-    budget: &mut u64,
-) -> Result<Option<Found>, FindFault>
-    requires ready { AreCandidates (starts_read patterns.now) starts.now }
-    requires within { at ≤ length text.now }
-    requires small { length text.now < 2 ^ 31 }
-    ensures { let cs = starts_of patterns.now starts.now.numbers.items in
-        Searches (earliest text.now at anchors.allow_a anchors.allow_g cs) (searches_cost text.now at anchors.allow_a anchors.allow_g cs)
-        budget.old budget.new result }
-{
-    let won = patterns.starts.next_among(
-        alloc,
-        starts,
-        text,
-        at as u32,
-        anchors.allow_a,
-        anchors.allow_g,
-        budget,
-    )?;
-    Ok(candidate_at(starts.numbers.as_slice(), won))
-}
-
-/// The first match of the end that a rule has in its grammar.
-fn own_end(
-    alloc: Global,
-    patterns: &Patterns,
-    rule: u32,
-    text: &Line,
-    at: usize,
-    anchors: Anchors,
-    budget: &mut u64,
-) -> Result<Option<Found>, FindFault>
-    requires within { at ≤ length text.now }
-    requires small { length text.now < 2 ^ 31 }
-    ensures { let cs = end_with (own_end (slice_get patterns.now rule)) in
-        Searches (earliest text.now at anchors.allow_a anchors.allow_g cs) (searches_cost text.now at anchors.allow_a anchors.allow_g cs)
-        budget.old budget.new result }
-{
-    let won = patterns.ends.next_of(
-        alloc,
-        rule,
-        text,
-        at as u32,
-        anchors.allow_a,
-        anchors.allow_g,
-        budget,
-    )?;
-    Ok(candidate_at(&[], won))
-}
-
-/// The first match of an end that was made.
-fn made_end_found(
-    alloc: Global,
-    end: &MadeEnd,
-    text: &Line,
-    at: usize,
-    anchors: Anchors,
-    budget: &mut u64,
-) -> Result<Option<Found>, FindFault>
-    requires within { at ≤ length text.now }
-    requires small { length text.now < 2 ^ 31 }
-    ensures { (end_text : List ℕ) → trees_of end.now.scanner ≡ parsed end_text ∷ [] →
-        let cs = end_with (Some end_text) in
-        Searches (earliest text.now at anchors.allow_a anchors.allow_g cs) (searches_cost text.now at anchors.allow_a anchors.allow_g cs)
-        budget.old budget.new result }
-{
-    let won = end.scanner.next(
-        alloc,
-        text,
-        at as u32,
-        anchors.allow_a,
-        anchors.allow_g,
-        budget,
-    )?;
-    Ok(candidate_at(&[], won))
-}
-
-/// The first match of the end of an open rule: of the one that was made for it at its begin, or else of
-/// that of its grammar.
-fn end_found<S: States>(
-    alloc: Global,
-    table: &S,
-    patterns: &Patterns,
-    ends: &mut Vec<MadeEnd>,
-    frame: Frame,
-    text: &Line,
-    at: usize,
-    anchors: Anchors,
-    budget: &mut u64,
-) -> Result<Option<Found>, FindFault>
-    requires frame { IsFrameOf (S.tables table.now) frame }
-    requires made { AreMadeEnds (S.tables table.now) ends.old.items }
-    requires within { at ≤ length text.now }
-    requires small { length text.now < 2 ^ 31 }
-    ensures found { let f = frame_at (S.tables table.now) frame in
-        let cs = end_with (end_text (slice_get patterns.now f.rule) f.end) in
-        Searches (earliest text.now at anchors.allow_a anchors.allow_g cs) (searches_cost text.now at anchors.allow_a anchors.allow_g cs)
-        budget.old budget.new result }
-    ensures made { AreMadeEnds (S.tables table.now) ends.new.items }
-{
-    let Some(end) = frame.end else {
-        return own_end(alloc, patterns, frame.rule, text, at, anchors, budget);
-    };
-    let place = made_end(alloc, table, ends, end)?;
-    made_end_found(alloc, &ends[place], text, at, anchors, budget)
-}
-
-/// The candidate of an open rule that is found earliest from `at` on, the first in the rule's list on
-/// a tie. The rule's own end counts where `has_end` is set. `ends` are those that were made for this line.
-/// `Budget` comes only where the searches cost more than the budget.
-pub fn winner<S: States>(
-    alloc: Global,
-    table: &S,
-    patterns: &Patterns,
-    ends: &mut Vec<MadeEnd>,
-    text: &Line,
-    at: usize,
-    anchors: Anchors,
-    has_end: bool,
-    frame: Frame,
-    budget: &mut u64,
-) -> Result<Option<Found>, FindFault>
-    requires frame { IsFrameOf (S.tables table.now) frame }
-    requires made { AreMadeEnds (S.tables table.now) ends.old.items }
-    requires within { at ≤ length text.now }
-    requires small { length text.now < 2 ^ 31 }
-    ensures found { let cs = candidates_in patterns.now (frame_at (S.tables table.now) frame) has_end in
-        Searches (earliest text.now at anchors.allow_a anchors.allow_g cs) (searches_cost text.now at anchors.allow_a anchors.allow_g cs)
-        budget.old budget.new result }
-    ensures made { AreMadeEnds (S.tables table.now) ends.new.items }
-{
-    let Some(inside) = patterns.inside(frame.rule) else {
-        return Ok(None);
-    };
-    let start = earliest_start(alloc, patterns, &inside.starts, text, at, anchors, budget)?;
-    let Some(end_last) = inside.end_last else {
-        return Ok(start);
-    };
-    if !has_end {
-        return Ok(start);
-    }
-    let end = end_found(
-        alloc, table, patterns, ends, frame, text, at, anchors, budget,
-    )?;
-    Ok(earlier_in(end_last, start, end))
 }

@@ -1,36 +1,26 @@
 //! The tokenizer of rules of patterns.
-ghost use Rattle.std.specs.Prelude.{◌≡◌, ◌↔◌, ◌≤◌, ◌<◌, ◌^◌, ◌-◌, ◌++◌, ◌∷◌, [], length, flat_map, IfOk, IfErr, IsErrOf, slice_get, Some, reverse};
-ghost use Rattle.tm_defs.specs.Tables.{GrowsWithin, IsFullForSome, state_at};
-ghost use Rattle.tm_defs.specs.declared.tokenizer.LineFault.TheVariants as fault;
-ghost use Rattle.tm_line_run.specs.Painted.{furthest, meta_at, runs_of};
-ghost use Rattle.tm_meta.specs.Metadata.{metadata_of};
-ghost use Rattle.tm_line.specs.Ran.{Tokenizes};
+ghost use Rattle.std.specs.Prelude.{◌≡◌, ◌↔◌, ◌<◌, ◌++◌, ◌∷◌, [], length, flat_map, IfOk, IsErrOf};
 ghost use Rattle.tm_line.specs.Setting.{setting_of, setting_with};
 ghost use Rattle.tm_line_lint.specs.Unread.{unread_in};
 ghost use Rattle.tm_rules.specs.Rules.{plain_rules};
 ghost use Rattle.tm_rules.specs.Sizes.{rule_limit};
 ghost use Rattle.tm_rules.specs.declared.grammars.RulesFault.TheVariants as rules_fault;
 ghost use Rattle.tm_template.specs.Names.{words_of};
-ghost use Rattle.tm_line.specs.Tokenizing.{start_spot, start_state, start_made, top_contents};
-ghost use Rattle.tm_line.specs.Turned.{spot_of};
 
-use crate::patterns::Patterns;
-use crate::run::run;
-use crate::tables::{named_list, push_frame};
-use crate::turn::table_fault;
-use crate::way::Way;
+use crate::prepared::Prepared;
+use crate::rules::LineRoom;
 use std::alloc::{AllocError, Global};
 use std::marker::Model;
 use std::sync::ledger::Ledger;
-use tm_defs::frames::{ScopeList, StateId};
+use tm_defs::frames::StateId;
 use tm_defs::memory::OutOfMemory;
 use tm_defs::steps::Steps;
-use tm_defs::tables::{States, TableFault};
+use tm_defs::tables::States;
 use tm_defs::texts::{Line, Name, ScopePath};
 use tm_defs::tokenizer::{LineFault, LineOut, LineTok};
 use tm_line_lint::{Unread, unreadable};
-use tm_line_run::painter::{Painted, tokens_of};
-use tm_meta::metadata::{base_metadata, metadata};
+use tm_line_parts::line::tokenize_line;
+use tm_line_parts::rules::Job;
 use tm_rules::grammars::{Grammars, RulesFault};
 use tm_rules::rules::Rules;
 use tm_template::names::words;
@@ -46,7 +36,7 @@ pub struct Parts {
 #[derive(Drop)]
 pub struct Setting {
     scopes: ScopePath,
-    patterns: Patterns,
+    rules: Prepared,
     unread: Vec<Unread>,
     alloc: Global,
 }
@@ -58,9 +48,9 @@ impl Model for Setting {
 
     ghost Value = { Setting };
 
-    ghost view = { λ a. setting_with a.scopes a.patterns };
+    ghost view = { λ a. setting_with a.scopes a.rules };
 
-    ghost invariant = { λ a. a.unread.items ≡ flat_map unread_in a.patterns };
+    ghost invariant = { λ a. a.unread.items ≡ flat_map unread_in a.rules };
 }
 
 /// A setting of these rules. The scope name of the root grammar gives the scopes.
@@ -69,10 +59,10 @@ fn setting_of(alloc: Global, scope_name: &Name, rules: Rules) -> Result<Setting,
 {
     let scopes = words(alloc, scope_name)?;
     let unread = unreadable(alloc, &rules)?;
-    let patterns = Patterns::build(alloc, rules)?;
+    let rules = Prepared::build(alloc, rules)?;
     Ok(Setting {
         scopes,
-        patterns,
+        rules,
         unread,
         alloc,
     })
@@ -116,131 +106,6 @@ fn with_break(alloc: Global, line: &Line) -> Result<Vec<char>, AllocError>
     Ok(text)
 }
 
-/// The state with which a line begins: at the opening state that of the root.
-fn start_of<S: States>(
-    table: &mut S,
-    scopes: &ScopePath,
-    start: StateId,
-) -> Result<StateId, TableFault>
-    requires { start.0 < length (S.tables table.old).states }
-    ensures ok { let state = state_at (S.tables table.old) start in
-        IfOk result (λ id. slice_get (S.tables table.new).states id.0 ≡
-        Some (start_state scopes.now state)) }
-    ensures grows { let state = state_at (S.tables table.old) start in
-        GrowsWithin (start_made scopes.now state) (S.tables table.old) (S.tables table.new) }
-    ensures full { let state = state_at (S.tables table.old) start in
-        IfErr result (IsFullForSome (start_made scopes.now state) (S.tables table.new)) }
-{
-    table.prove_known();
-    if start.0 != 0 {
-        return Ok(start);
-    }
-    match named_list(table, ScopeList(0), scopes) {
-        Ok(path) => push_frame(table, start, path, path, 0, &None, false),
-        Err(fault) => Err(fault),
-    }
-}
-
-/// The metadata of a state's innermost content scopes.
-fn top_meta<S: States>(table: &S, state: StateId) -> u32
-    requires { state.0 < length (S.tables table.now).states }
-    ensures { result ≡ metadata_of (top_contents (reverse (state_at (S.tables table.now) state))) }
-{
-    match table.top(state) {
-        Some((frame, _)) => metadata(table, frame.contents),
-        None => base_metadata(),
-    }
-}
-
-/// The tokens of what was painted, and the state.
-fn finished<S: States>(
-    alloc: Global,
-    table: &S,
-    pieces: &[Painted],
-    len: usize,
-    end: StateId,
-) -> Result<LineOut, LineFault>
-    requires end { end.0 < length (S.tables table.now).states }
-    requires reach { len ≤ furthest pieces.now }
-    requires short { len < 2 ^ 31 }
-    ensures tokens { let contents = top_contents (reverse (state_at (S.tables table.now) end)) in
-        IfOk result (λ out. out.tokens ≡ runs_of (meta_at pieces.now) (metadata_of contents) len) }
-    ensures end { IfOk result (λ out. out.end ≡ end) }
-    ensures full { IfErr result (λ cause. cause ≡ fault.OutOfMemory) }
-{
-    let end_meta = top_meta(table, end);
-    let Ok(tokens) = tokens_of(alloc, pieces, len, end_meta) else {
-        return Err(LineFault::OutOfMemory);
-    };
-    Ok(LineOut { tokens, end })
-}
-
-/// The way at a line's start. Only the opening state is the start of a text, and the anchor is the start
-/// of the line where the innermost rule began with the end of a line.
-fn start_way<S: States>(alloc: Global, table: &S, start: StateId) -> Way
-    requires { start.0 < length (S.tables table.now).states }
-    ensures { spot_of result ≡ start_spot (state_at (S.tables table.now) start) }
-{
-    let entries = Vec::new(alloc);
-    match table.top(start) {
-        Some((frame, _)) => Way {
-            at: 0,
-            entries,
-            anchor: if frame.at_eol { Some(0) } else { None },
-            first: false,
-        },
-        None => Way {
-            at: 0,
-            entries,
-            anchor: None,
-            first: true,
-        },
-    }
-}
-
-/// A line from a state.
-fn tokenized_line<S: States>(
-    alloc: Global,
-    table: &mut S,
-    scopes: &ScopePath,
-    patterns: &Patterns,
-    start: StateId,
-    line: &Line,
-    budget: u64,
-) -> Result<LineOut, LineFault>
-    requires start { start.0 < length (S.tables table.old).states }
-    requires short { length line.now < 2 ^ 31 - 1 }
-    ensures { Tokenizes (setting_with scopes.now patterns.now) (state_at (S.tables table.old) start) line.now
-        (S.tables table.old) (S.tables table.new) budget result }
-{
-    let Ok(chars) = with_break(alloc, line) else {
-        return Err(LineFault::OutOfMemory);
-    };
-    let text = Line::new(chars);
-    let mut way = start_way(alloc, table, start);
-    let state = match start_of(table, scopes, start) {
-        Ok(state) => state,
-        Err(fault) => return Err(table_fault(fault)),
-    };
-    let mut pieces = Vec::new(alloc);
-    let mut made = Vec::new(alloc);
-    let mut left = budget;
-    match run(
-        alloc,
-        table,
-        &mut pieces,
-        patterns,
-        &mut made,
-        &text,
-        state,
-        &mut way,
-        &mut left,
-    ) {
-        Ok(end) => finished(alloc, table, pieces.as_slice(), line.as_slice().len(), end),
-        Err(fault) => Err(fault),
-    }
-}
-
 impl LineTok for Setting {
     ghost use Rattle.tm_line.specs.Setting.{Setting};
     ghost use Rattle.tm_line.specs.Tokenizing.{rules_tokenized, rules_cost, rules_made};
@@ -264,14 +129,15 @@ impl LineTok for Setting {
         steps: &mut Steps<L>,
     ) -> Result<LineOut, LineFault> {
         steps.tick();
-        tokenized_line(
-            self.alloc,
-            table,
-            &self.scopes,
-            &self.patterns,
-            start,
-            line,
-            budget,
-        )
+        let Ok(text) = with_break(self.alloc, line) else {
+            return Err(LineFault::OutOfMemory);
+        };
+        let job = Job {
+            alloc: self.alloc,
+            rules: &self.rules,
+            text: text.as_slice(),
+        };
+        let mut room = LineRoom::new(self.alloc);
+        tokenize_line(&job, &mut room, table, &self.scopes, start, budget)
     }
 }

@@ -12,7 +12,7 @@ use std::alloc::Global;
 use tm_defs::caps::Caps;
 use tm_defs::memory::OutOfMemory;
 use tm_defs::rules::Rule;
-use tm_defs::texts::{Line, Name};
+use tm_defs::texts::Name;
 use tm_onig_atom::store::Sets;
 use tm_onig_parse::{ParseFault, parse_with};
 use tm_template::ends::{has_references, resolve};
@@ -112,9 +112,8 @@ fn put(
 fn with_nothing(alloc: Global, text: &Name) -> Result<Name, OutOfMemory>
     ensures { IfOk result (λ end. end ≡ tried text.now) }
 {
-    let line = Line::new(Vec::new(alloc));
     let caps = Caps::new(SmallVec::new(alloc));
-    resolve(alloc, text, &line, &caps)
+    resolve(alloc, text, &[], &caps)
 }
 
 /// Whether an end or a while is readable with every captured text empty.

@@ -3,15 +3,13 @@
 //! Colours and fonts come with themes, and this tokenizer has none: every token has language 1, font
 //! style 0, foreground 1 and background 2. The metadata is computed when a piece is painted, so that
 //! nothing beside the table grows with it.
-ghost use Rattle.std.specs.Prelude.{◌≡◌, ◌<◌, ◌≤◌, ◌-◌, ◌==◌, ◌&&◌, ◌++◌, ◌∷◌, [], length, not, IfOk};
+ghost use Rattle.std.specs.Prelude.{◌≡◌, ◌<◌, ◌≤◌, ◌-◌, ◌==◌, ◌&&◌, [], length, not};
 ghost use Rattle.tm_defs.specs.Tables.{path_at};
 ghost use Rattle.tm_meta.specs.Metadata.{in_word, stands_alone, type_at, decided_type, packed, metadata_of};
 
 use crate::words::may_begin;
-use std::alloc::AllocError;
 use tm_defs::frames::ScopeList;
 use tm_defs::tables::States;
-use tm_line_run::painter::Painted;
 
 /// The token type of a scope, after vscode-textmate's standard token types.
 #[derive(Clone, Copy, Debug, PartialEq, Eq)]
@@ -137,20 +135,4 @@ pub fn base_metadata() -> u32
     ensures { result ≡ metadata_of [] }
 {
     word(TokenType::Other)
-}
-
-/// Paints a scope list up to an end, which counts characters.
-pub fn paint<S: States>(
-    table: &S,
-    pieces: &mut Vec<Painted>,
-    scopes: ScopeList,
-    end: usize,
-) -> Result<(), AllocError>
-    requires { scopes.0 < length (S.tables table.now).paths }
-    ensures { let meta = metadata_of (path_at (S.tables table.now) scopes) in
-        IfOk result (λ _. pieces.new.items ≡ pieces.old.items ++ record { end = end; meta = meta } ∷ []) }
-{
-    let meta = metadata(table, scopes);
-    pieces.push(Painted { end, meta })?;
-    Ok(())
 }

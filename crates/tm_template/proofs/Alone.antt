@@ -14,7 +14,7 @@ use Rattle.tm_template.proofs.Forms.{end_is_form}
 use Rattle.tm_template.proofs.Pieces.{pieces-front, pieces_plain}
 
 -- of two tests neither holds
-neither : (a b : Bool) → (a || b) ≡ false → (a ≡ false) × (b ≡ false)
+pub neither : (a b : Bool) → (a || b) ≡ false → (a ≡ false) × (b ≡ false)
 neither false b e = (refl, e)
 neither true b e = absurd cc
 

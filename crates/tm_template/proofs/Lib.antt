@@ -4,3 +4,4 @@ pub mod Pieces
 pub mod Loops
 pub mod Words
 pub mod Alone
+pub mod Templates

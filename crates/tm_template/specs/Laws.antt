@@ -4,10 +4,10 @@ use Rattle.std.specs.List.{list_all, list_any}
 use Rattle.std.specs.Char.{is_ascii_digit}
 use Rattle.tm_template.specs.declared.references.Manner.{Manner}
 use Rattle.tm_template.specs.declared.references.Manner.TheVariants.{AsCaptured, Downcase, Upcase}
-use Rattle.tm_template.specs.References.{Reference, Piece, Plain, Refers, Form, end_form, piece_text, pieces}
+use Rattle.tm_template.specs.References.{Reference, Piece, Plain, Refers, Form, name_form, end_form, piece_text, pieces}
 use Rattle.tm_onig_search.specs.Outcomes.{Caps}
 use Rattle.tm_template.specs.Ends.{begins_digit, has_reference, resolved}
-use Rattle.tm_template.specs.Names.{is_blank, is_filled, words_of}
+use Rattle.tm_template.specs.Names.{is_blank, is_filled, words_of, names_of, has_name_reference}
 
 -- One or more digits.
 pub record AreDigits (ds : List ℕ) : Type 0 where
@@ -52,6 +52,14 @@ IsReferring text = has_reference text ≡ list_any is_reference (pieces end_form
 -- A text that refers to no group stays as it is.
 abbrev pub StaysAlone : List ℕ → List ℕ → Caps → Type 0
 StaysAlone text line caps = has_reference text ≡ false → resolved text line caps ≡ text
+
+-- A template refers to a group where one of its pieces does.
+abbrev pub IsReferringName : List ℕ → Type 0
+IsReferringName text = has_name_reference text ≡ list_any is_reference (pieces name_form text)
+
+-- A template that refers to no group gives its own words for every match.
+abbrev pub GivesItsWords : List ℕ → List ℕ → Caps → Type 0
+GivesItsWords template line caps = has_name_reference template ≡ false → names_of template line caps ≡ words_of template
 
 -- A name: at least one character, and no space.
 pub record IsName (name : List ℕ) : Type 0 where

@@ -1,11 +1,12 @@
 -- The names that a template pushes, after the rules of vscode-textmate.
-use Rattle.std.specs.Prelude.{ℕ, ◌==◌, Bool, not, List, [], ◌∷◌, length, drop, map, filter, flat_map, Option, Some, None}
+use Rattle.std.specs.Prelude.{ℕ, ◌==◌, ◌||◌, Bool, false, not, List, [], ◌∷◌, length, drop, map, filter, flat_map, Option, Some, None}
 use Rattle.std.specs.List.{slice_split, prefix_len}
+use Rattle.std.specs.Option.{is_some}
 use Rattle.std.specs.Char.{to_ascii_lowercase, to_ascii_uppercase}
 use Rattle.tm_onig_search.specs.Outcomes.{Caps}
 use Rattle.tm_template.specs.declared.references.Manner.{Manner}
 use Rattle.tm_template.specs.declared.references.Manner.TheVariants.{AsCaptured, Downcase, Upcase}
-use Rattle.tm_template.specs.References.{Piece, Plain, Refers, name_form, name_spelling, pieces}
+use Rattle.tm_template.specs.References.{Piece, Plain, Refers, name_form, name_spelling, name_reference, pieces}
 use Rattle.tm_template.specs.Captured.{captured, group_of}
 
 -- A dot.
@@ -53,3 +54,8 @@ words_of text = filter is_filled (slice_split is_blank text)
 -- The names of a template.
 abbrev pub names_of : List ℕ → List ℕ → Caps → List (List ℕ)
 names_of template line caps = words_of (filled template line caps)
+
+-- A reference is spelled somewhere in the template.
+abbrev pub has_name_reference : List ℕ → Bool
+has_name_reference [] = false
+has_name_reference (c ∷ t) = is_some (name_reference (c ∷ t)) || has_name_reference t

@@ -10,7 +10,7 @@ use crate::references::end_reference;
 use std::alloc::Global;
 use tm_defs::caps::Caps;
 use tm_defs::memory::OutOfMemory;
-use tm_defs::texts::{Line, Name};
+use tm_defs::texts::Name;
 use tm_onig_class::listed::is_space;
 
 const SIGNS: [char; 17] = [
@@ -126,10 +126,10 @@ pub fn has_references(text: &Name) -> bool
 /// backslashes and a digit, the second is the reference's.
 ///
 /// The groups are in characters of the line, as a search of it gives them.
-pub fn resolve(alloc: Global, text: &Name, line: &Line, caps: &Caps) -> Result<Name, OutOfMemory>
+pub fn resolve(alloc: Global, text: &Name, line: &[char], caps: &Caps) -> Result<Name, OutOfMemory>
     requires { AreWithin (length line.now) caps.now }
     ensures { IfOk result (λ end. end ≡ resolved text.now line.now caps.now) }
 {
-    let text = filled(alloc, text.as_slice(), line.as_slice(), caps.as_slice())?;
+    let text = filled(alloc, text.as_slice(), line, caps.as_slice())?;
     Ok(Name::new(text))
 }

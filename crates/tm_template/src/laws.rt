@@ -2,7 +2,7 @@
 ghost use Rattle.std.specs.Prelude.{◌≡◌, ℕ, List};
 ghost use Rattle.tm_onig_search.specs.Outcomes.{Caps};
 ghost use Rattle.tm_template.specs.References.{Piece, Form, name_form, end_form, pieces};
-ghost use Rattle.tm_template.specs.Laws.{spelled, AreRead, IsReferring, StaysAlone, WordsAre, AreWords};
+ghost use Rattle.tm_template.specs.Laws.{spelled, AreRead, IsReferring, StaysAlone, IsReferringName, GivesItsWords, WordsAre, AreWords};
 ghost use Rattle.tm_template.specs.Rows.{Rows};
 
 /// Law: the pieces of a template are spelled as the template, each reference is as long as it can be,
@@ -25,6 +25,13 @@ pub fn end_pieces()
 pub fn ends_alone()
     ensures refers { (text : List ℕ) → IsReferring text }
     ensures stays { (text line : List ℕ) (caps : Caps) → StaysAlone text line caps }
+{}
+
+/// Law: a template refers to a group where one of its pieces does, and gives its own words for every match
+/// where none does.
+pub fn templates_alone()
+    ensures refers { (text : List ℕ) → IsReferringName text }
+    ensures gives { (template line : List ℕ) (caps : Caps) → GivesItsWords template line caps }
 {}
 
 /// Law: a name is one word, and a space parts the words before it from those behind it. So the words of

@@ -1,8 +1,10 @@
 //! The names that a template pushes.
-ghost use Rattle.std.specs.Prelude.{◌≡◌, ◌++◌, ◌∷◌, [], length, map, filter, IfOk, OnOk};
+ghost use Rattle.std.specs.Prelude.{◌≡◌, ◌++◌, ◌∷◌, [], ℕ, List, length, map, filter, IfOk, OnOk, MatchOption, ⊤};
+ghost use Rattle.std.specs.Option.{is_none};
 ghost use Rattle.tm_onig_search.specs.Find.{AreWithin};
+ghost use Rattle.tm_onig_search.specs.Outcomes.{Caps};
 ghost use Rattle.tm_template.specs.Captured.{IsSpanWithin};
-ghost use Rattle.tm_template.specs.Names.{without_dots, in_case, reference_name, piece_name, filled, is_filled, words_of, names_of};
+ghost use Rattle.tm_template.specs.Names.{without_dots, in_case, reference_name, piece_name, filled, is_filled, words_of, names_of, has_name_reference};
 ghost use Rattle.tm_template.specs.References.{name_form, name_reference, name_spelling, reference, piece_or, piece_text};
 
 use crate::captures::{captured, group_of};
@@ -10,7 +12,7 @@ use crate::references::{Manner, name_reference, name_width};
 use std::alloc::Global;
 use tm_defs::caps::Caps;
 use tm_defs::memory::OutOfMemory;
-use tm_defs::texts::{Line, Name, ScopePath};
+use tm_defs::texts::{Name, ScopePath};
 
 /// The text from its first character on that is no dot.
 fn without_dots(text: &[char]) -> &[char]
@@ -140,6 +142,36 @@ pub fn words(alloc: Global, text: &Name) -> Result<ScopePath, OutOfMemory>
     Ok(ScopePath::new(words_of(alloc, text.as_slice())?))
 }
 
+/// Whether a reference is spelled anywhere in a template. One that has none gives its own words for every
+/// match.
+pub fn has_name_references(template: &Name) -> bool
+    ensures { result ≡ has_name_reference template.now }
+{
+    let mut rest = template.as_slice();
+    loop {
+        if name_reference(rest).is_some() {
+            return true;
+        }
+        match rest {
+            [_, after @ ..] => rest = after,
+            [] => return false,
+        }
+    }
+}
+
+/// The names of a template without a reference, which are the same for every match; none for one with a
+/// reference.
+pub fn fixed_names(alloc: Global, template: &Name) -> Result<Option<ScopePath>, OutOfMemory>
+    ensures fixed { IfOk result (λ found. MatchOption found ⊤ (λ path. (line : List ℕ) (caps : Caps) → path ≡ names_of template.now line caps)) }
+    ensures where_none { IfOk result (λ found. is_none found ≡ has_name_reference template.now) }
+{
+    if has_name_references(template) {
+        Ok(None)
+    } else {
+        Ok(Some(words(alloc, template)?))
+    }
+}
+
 /// The names that a template pushes for a match on a line, by the rules of vscode-textmate and of the
 /// TextMate 1.x manual: `$` with as many digits as follow, and `${1:/downcase}` and `${1:/upcase}`,
 /// stand for what a group captured, without the dots at its front and in that case of ASCII letters.
@@ -151,12 +183,12 @@ pub fn words(alloc: Global, text: &Name) -> Result<ScopePath, OutOfMemory>
 pub fn name_of(
     alloc: Global,
     template: &Name,
-    line: &Line,
+    line: &[char],
     caps: &Caps,
 ) -> Result<ScopePath, OutOfMemory>
     requires { AreWithin (length line.now) caps.now }
     ensures { IfOk result (λ path. path ≡ names_of template.now line.now caps.now) }
 {
-    let text = filled(alloc, template.as_slice(), line.as_slice(), caps.as_slice())?;
+    let text = filled(alloc, template.as_slice(), line, caps.as_slice())?;
     Ok(ScopePath::new(words_of(alloc, text.as_slice())?))
 }

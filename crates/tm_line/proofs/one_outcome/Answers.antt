@@ -1,7 +1,7 @@
-use Rattle.tm_line_run.proofs.Turns.{is_line_run}
-use Rattle.tm_line.specs.Grammar.{rules_grammar}
-use Rattle.tm_line.proofs.FoundWithin.{finds-within}
+use Rattle.tm_line_turns.proofs.Depths.{is_run_at_each_depth}
+use Rattle.tm_line.specs.Grammar.{rules_language}
+use Rattle.tm_line.specs.inner.FoundWithin.{finds-in-text}
 use Rattle.tm_line.proofs.one_outcome.Goals as goal
 
 pub returns : goal.returns
-returns c = λ rules text. is_line_run (rules_grammar rules text) (finds-within rules text)
+returns c = λ rules. is_run_at_each_depth (rules_language rules) (finds-in-text rules)

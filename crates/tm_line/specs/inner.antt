@@ -1,0 +1,3 @@
+pub mod FoundWithin
+pub mod Prepared
+pub mod Searched

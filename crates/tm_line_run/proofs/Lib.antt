@@ -1,4 +1,0 @@
-pub mod Pieces
-pub mod Reach
-pub mod Runs
-pub mod Turns
