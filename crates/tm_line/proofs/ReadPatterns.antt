@@ -10,6 +10,9 @@ use Rattle.tm_rules.specs.Candidates.{flattened_candidates, with_end_if}
 use Rattle.tm_rules.specs.declared.candidate.Candidate.{Candidate}
 use Rattle.tm_rules.specs.declared.candidate.Candidate.TheVariants.{Start, End}
 use Rattle.tm_defs.specs.declared.rules.Rule.{Rule}
+use Rattle.std.specs.Option.{is_some}
+use Rattle.tm_line_lint.specs.Unread.{AreKnown, is_read}
+use Rattle.tm_line_lint.specs.declared.Reads.{Reads}
 use Rattle.tm_line.specs.Search.{start_text, own_end, pattern_of, patterns_in}
 use Rattle.tm_line.specs.inner.Prepared.{Counts, StandsIn, counted_end, end_place, number_of, patterns_read, read_by, replaced}
 
@@ -82,6 +85,18 @@ module _ (rules : List Rule) where
   one-numbered n End =
       pattern_at-back (read_by start_text rules) (read_by own_end rules) (length rules + n) n (let long = length-read start_text rules in omega (arith, long))
       ∙ pattern_at-read own_end refl rules n
+
+  -- what is known of a rule's patterns, once they are read
+  pub known : (n : ℕ) (rule : Rule) (reads : Reads) → n < length rules → slice_get rules n ≡ Some rule →
+      reads.start ≡ is_some (pattern_at (patterns_read rules) n) → reads.end ≡ is_some (pattern_at (patterns_read rules) (length rules + n)) → AreKnown rule reads
+  known n rule reads low at start end = (
+    start ∙ ap is_some (start-numbered n true (grind (arith, nat_tests)) ∙ ap (λ r. parsed_if (start_text r)) at) ∙ told (start_text (Some rule)),
+    end ∙ ap is_some (one-numbered n End ∙ ap (λ r. parsed_if (own_end r)) at) ∙ told (own_end (Some rule)),
+  )
+    where
+      told : (text : Option (List ℕ)) → is_some (parsed_if text) ≡ is_read text
+      told None = refl
+      told (Some text) = refl
 
   pub all-numbered : (n : ℕ) (cs : List Candidate) → patterns_at (patterns_read rules) (map (number_of (length rules) n) cs) ≡ map (own_pattern rules n) cs
   all-numbered n [] = refl

@@ -1,8 +1,10 @@
 //! The rules of a setting, ready to be searched. A rule is named by its number.
-ghost use Rattle.std.specs.Prelude.{◌≡◌, ◌<◌, ◌^◌, ◌+◌, ◌++◌, ◌∷◌, length, map, slice_get, Some, None, IfOk, OnOk, MatchOption};
+ghost use Rattle.std.specs.Prelude.{◌≡◌, ◌<◌, ◌^◌, ◌+◌, ◌++◌, ◌∷◌, flat_map, length, map, slice_get, Some, None, IfOk, OnOk, MatchOption};
 ghost use Rattle.std.specs.Option.{option_copied};
 ghost use Rattle.tm_onig_scan.specs.Winner.{trees_of};
 ghost use Rattle.tm_rules.specs.Candidates.{flattened_candidates};
+ghost use Rattle.tm_defs.specs.declared.rules.Rule.{Rule};
+ghost use Rattle.tm_line_lint.specs.Unread.{AreKnown, unread_in};
 ghost use Rattle.tm_line.specs.inner.Prepared.{AreInsides, IsInside, number_of, patterns_read};
 
 use crate::names::fixed_scopes;
@@ -12,6 +14,8 @@ use std::marker::Model;
 use tm_defs::memory::OutOfMemory;
 use tm_defs::rules::Rule;
 use tm_defs::texts::ScopePath;
+use tm_line_lint::{Reads, Unread, add_unreadable};
+use tm_onig_atom::store::Sets;
 use tm_onig_scan::Scanner;
 use tm_onig_scan::candidates::Candidates;
 use tm_patcache::cache::PatCache;
@@ -63,13 +67,7 @@ fn number_of(count: u32, n: u32, candidate: Candidate) -> u32
     ensures { result ≡ number_of count n candidate }
 {
     match candidate {
-        Candidate::Start(m) => {
-            if m < count {
-                m
-            } else {
-                count + count
-            }
-        }
+        Candidate::Start(m) => { if m < count { m } else { count + count } }
         Candidate::End => count + n,
     }
 }
@@ -93,26 +91,21 @@ fn numbers_of(
 }
 
 /// The patterns of the rules.
-fn scanner_of(alloc: Global, rules: &Rules) -> Result<Scanner, OutOfMemory>
+fn scanner_of(alloc: Global, sets: &mut Sets, rules: &Rules) -> Result<Scanner, OutOfMemory>
     ensures { IfOk result (λ scanner. trees_of scanner ≡ patterns_read rules.now) }
 {
     let mut scanner = Scanner::new(alloc);
     for n in 0..rules.len() {
-        scanner.push(alloc, start_text(rules.rule(n)))?;
+        scanner.push_with(alloc, sets, start_text(rules.rule(n)))?;
     }
     for n in 0..rules.len() {
-        scanner.push(alloc, own_end(rules.rule(n)))?;
+        scanner.push_with(alloc, sets, own_end(rules.rule(n)))?;
     }
     Ok(scanner)
 }
 
 /// What is searched inside a rule.
-fn inside_of(
-    alloc: Global,
-    rules: &Rules,
-    scanner: &Scanner,
-    n: u32,
-) -> Result<Inside, OutOfMemory>
+fn inside_of(alloc: Global, rules: &Rules, scanner: &Scanner, n: u32) -> Result<Inside, OutOfMemory>
     requires few { length rules.now < 2 ^ 31 }
     requires within { n < length rules.now }
     requires read { trees_of scanner.now ≡ patterns_read rules.now }
@@ -145,14 +138,15 @@ fn insides_of(alloc: Global, rules: &Rules, scanner: &Scanner) -> Result<Vec<Ins
 }
 
 impl Prepared {
-    /// The same rules, with their patterns read. 2^31 rules or more are want of memory.
-    pub fn build(alloc: Global, rules: Rules) -> Result<Self, OutOfMemory>
+    /// The same rules, with their patterns read, by the store of sets that is lent. 2^31 rules or more are want of
+    /// memory.
+    pub fn build(alloc: Global, sets: &mut Sets, rules: Rules) -> Result<Self, OutOfMemory>
         ensures { IfOk result (λ built. built ≡ rules) }
     {
         if rules.len() >= 1 << 31 {
             return Err(OutOfMemory);
         }
-        let scanner = scanner_of(alloc, &rules)?;
+        let scanner = scanner_of(alloc, sets, &rules)?;
         let insides = insides_of(alloc, &rules, &scanner)?;
         let ends = PatCache::new(alloc, ENDS_KEPT)?;
         Ok(Prepared {
@@ -162,6 +156,33 @@ impl Prepared {
             ends,
             alloc,
         })
+    }
+
+    /// What is known of the patterns of the rule of a number: they have been read.
+    fn reads(&self, n: u32) -> Reads
+        requires { n < length self.now }
+        ensures { (rule : Rule) → slice_get self.now n ≡ Some rule → AreKnown rule result }
+    {
+        let count = self.rules.len();
+        let start = self.scanner.readable(n);
+        let end = self.scanner.readable(count + n);
+        Reads { start, end }
+    }
+
+    /// The unreadable patterns, by rising number of their rules, and of one rule in the order begin, end, match, while.
+    pub(crate) fn unreadable(
+        &self,
+        alloc: Global,
+        sets: &mut Sets,
+    ) -> Result<Vec<Unread>, OutOfMemory>
+        ensures { IfOk result (λ all. all.items ≡ flat_map unread_in self.now) }
+    {
+        let mut found = Vec::new(alloc);
+        for n in 0..self.rules.len() {
+            let reads = self.reads(n);
+            add_unreadable(alloc, sets, &mut found, self.rules.rule(n), reads)?;
+        }
+        Ok(found)
     }
 
     /// The rule of a number.

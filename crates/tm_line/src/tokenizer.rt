@@ -18,9 +18,10 @@ use tm_defs::steps::Steps;
 use tm_defs::tables::States;
 use tm_defs::texts::{Line, Name, ScopePath};
 use tm_defs::tokenizer::{LineFault, LineOut, LineTok};
-use tm_line_lint::{Unread, unreadable};
+use tm_line_lint::Unread;
 use tm_line_parts::line::tokenize_line;
 use tm_line_parts::rules::Job;
+use tm_onig_atom::store::Sets;
 use tm_rules::grammars::{Grammars, RulesFault};
 use tm_rules::rules::Rules;
 use tm_template::names::words;
@@ -58,8 +59,9 @@ fn setting_of(alloc: Global, scope_name: &Name, rules: Rules) -> Result<Setting,
     ensures { IfOk result (λ setting. setting ≡ setting_with (words_of scope_name.now) rules) }
 {
     let scopes = words(alloc, scope_name)?;
-    let unread = unreadable(alloc, &rules)?;
-    let rules = Prepared::build(alloc, rules)?;
+    let mut sets = Sets::new(alloc);
+    let rules = Prepared::build(alloc, &mut sets, rules)?;
+    let unread = rules.unreadable(alloc, &mut sets)?;
     Ok(Setting {
         scopes,
         rules,
