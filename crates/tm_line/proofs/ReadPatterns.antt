@@ -1,11 +1,14 @@
 -- The patterns of rules, as they are read rule by rule, and as they stand at the numbers of candidates.
 use Rattle.std.proofs.Common.{◌≡◌, ℕ, zero, suc, ◌+◌, ◌-◌, ◌<◌, ◌≤◌, ◌++◌, Bool, true, false, cond, nat_lt, List, [], ◌∷◌, length, length-append, map, take, Some, None, Option, refl, ap, ap₂, sym, ◌∙◌, add-one, arith, append_assoc, append-nil}
-use Rattle.std.specs.Prelude.{slice_get, slice_set}
+use Rattle.std.specs.Prelude.{option_map, slice_get, slice_set}
 use Rattle.std.proofs.lemmas.Bool.Decides.{nat_tests}
+use Rattle.std.proofs.lemmas.List.{length-map}
 use Rattle.std.proofs.lemmas.Option.{slice_get_past}
 use Rattle.tm_defs.specs.declared.frames.FrameData.{FrameData}
 use Rattle.tm_onig_class.specs.Tree.{Tree}
-use Rattle.tm_onig_scan.specs.Winner.{parsed_if, pattern_at, patterns_at}
+use Rattle.tm_onig_class.specs.Tree.{tree_of}
+use Rattle.tm_onig_class.specs.declared.patterns.Pattern.{Pattern}
+use Rattle.tm_onig_scan.specs.Winner.{trees_of, parsed_if, pattern_at, patterns_at}
 use Rattle.tm_rules.specs.Candidates.{flattened_candidates, with_end_if}
 use Rattle.tm_rules.specs.declared.candidate.Candidate.{Candidate}
 use Rattle.tm_rules.specs.declared.candidate.Candidate.TheVariants.{Start, End}
@@ -85,6 +88,12 @@ module _ (rules : List Rule) where
   one-numbered n End =
       pattern_at-back (read_by start_text rules) (read_by own_end rules) (length rules + n) n (let long = length-read start_text rules in omega (arith, long))
       ∙ pattern_at-read own_end refl rules n
+
+  -- two for each rule
+  pub twice : (patterns : List (Option Pattern)) → trees_of patterns ≡ patterns_read rules → length patterns ≡ length rules + length rules
+  twice patterns e =
+      sym (length-map patterns (option_map tree_of)) ∙ ap length e ∙ length-append (read_by start_text rules) (read_by own_end rules)
+      ∙ ap₂ (λ a b. a + b) (length-read start_text rules) (length-read own_end rules)
 
   -- what is known of a rule's patterns, once they are read
   pub known : (n : ℕ) (rule : Rule) (reads : Reads) → n < length rules → slice_get rules n ≡ Some rule →

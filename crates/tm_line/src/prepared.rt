@@ -164,8 +164,9 @@ impl Prepared {
         ensures { (rule : Rule) → slice_get self.now n ≡ Some rule → AreKnown rule result }
     {
         let count = self.rules.len();
+        let all = self.scanner.len();
         let start = self.scanner.readable(n);
-        let end = self.scanner.readable(count + n);
+        let end = self.scanner.readable(all - count + n);
         Reads { start, end }
     }
 
