@@ -8,12 +8,13 @@ ghost use Rattle.tm_line_lint.specs.Unread.{AreKnown, unread_in};
 ghost use Rattle.tm_line.specs.inner.Prepared.{AreInsides, IsInside, number_of, patterns_read};
 
 use crate::names::fixed_scopes;
-use crate::texts::{content_name_in, end_last_in, name_in, own_end, start_text};
+use crate::texts::{content_name_in, end_last_in, name_in};
 use std::alloc::Global;
 use std::marker::Model;
 use tm_defs::memory::OutOfMemory;
 use tm_defs::rules::Rule;
 use tm_defs::texts::ScopePath;
+use tm_line_lint::texts::{own_end, start_text};
 use tm_line_lint::{Reads, Unread, add_unreadable};
 use tm_onig_atom::store::Sets;
 use tm_onig_scan::Scanner;

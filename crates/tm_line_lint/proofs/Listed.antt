@@ -14,5 +14,5 @@ pub one-listed : (rules : List Rule) (n : ℕ) (rule : Rule) (found more : List 
 one-listed rules n rule found more at are e =
     let rest = flat_map unread_in (drop (n + 1) rules) in
     let split : drop n rules ≡ rule ∷ drop (n + 1) rules =
-        drop-cons rules n rule (slice_get_within rules n rule at) ∙ ap (λ x. x ∷ drop (suc n) rules) (get_or_from_slice_get rules n rule rule at) ∙ ap (λ k. rule ∷ drop k rules) (sym (add-one n)) in
+    drop-cons rules n rule (slice_get_within rules n rule at) ∙ ap (λ x. x ∷ drop (suc n) rules) (get_or_from_slice_get rules n rule rule at) ∙ ap (λ k. rule ∷ drop k rules) (sym (add-one n)) in
     ap (λ l. l ++ rest) e ∙ append_assoc found (unread_in rule) rest ∙ ap (λ l. found ++ flat_map unread_in l) (sym split) ∙ are
