@@ -1,15 +1,21 @@
 -- The patterns of rules, as they are read rule by rule, and as they stand at the numbers of candidates.
 use Rattle.std.proofs.Common.{◌≡◌, ℕ, zero, suc, ◌+◌, ◌-◌, ◌<◌, ◌≤◌, ◌++◌, Bool, true, false, cond, nat_lt, List, [], ◌∷◌, length, length-append, map, take, Some, None, Option, refl, ap, ap₂, sym, ◌∙◌, add-one, arith, append_assoc, append-nil}
-use Rattle.std.specs.Prelude.{slice_get, slice_set}
+use Rattle.std.specs.Prelude.{option_map, slice_get, slice_set}
 use Rattle.std.proofs.lemmas.Bool.Decides.{nat_tests}
+use Rattle.std.proofs.lemmas.List.{length-map}
 use Rattle.std.proofs.lemmas.Option.{slice_get_past}
 use Rattle.tm_defs.specs.declared.frames.FrameData.{FrameData}
 use Rattle.tm_onig_class.specs.Tree.{Tree}
-use Rattle.tm_onig_scan.specs.Winner.{parsed_if, pattern_at, patterns_at}
+use Rattle.tm_onig_class.specs.Tree.{tree_of}
+use Rattle.tm_onig_class.specs.declared.patterns.Pattern.{Pattern}
+use Rattle.tm_onig_scan.specs.Winner.{trees_of, parsed_if, pattern_at, patterns_at}
 use Rattle.tm_rules.specs.Candidates.{flattened_candidates, with_end_if}
 use Rattle.tm_rules.specs.declared.candidate.Candidate.{Candidate}
 use Rattle.tm_rules.specs.declared.candidate.Candidate.TheVariants.{Start, End}
 use Rattle.tm_defs.specs.declared.rules.Rule.{Rule}
+use Rattle.std.specs.Option.{is_some}
+use Rattle.tm_line_lint.specs.Unread.{AreKnown, is_read}
+use Rattle.tm_line_lint.specs.declared.Reads.{Reads}
 use Rattle.tm_line.specs.Search.{start_text, own_end, pattern_of, patterns_in}
 use Rattle.tm_line.specs.inner.Prepared.{Counts, StandsIn, counted_end, end_place, number_of, patterns_read, read_by, replaced}
 
@@ -66,24 +72,6 @@ own_pattern rules n (Start m) = parsed_if (start_text (slice_get rules m))
 own_pattern rules n End = parsed_if (own_end (slice_get rules n))
 
 module _ (rules : List Rule) where
-  -- the patterns of the rule of a number
-  pub start-at : (n : ℕ) → n < length rules → pattern_at (patterns_read rules) n ≡ parsed_if (start_text (slice_get rules n))
-  start-at n low =
-      pattern_at-front (read_by start_text rules) (read_by own_end rules) n (let long = length-read start_text rules in omega (arith, low, long))
-      ∙ pattern_at-read start_text refl rules n
-
-  pub end-at : (n : ℕ) → pattern_at (patterns_read rules) (length rules + n) ≡ parsed_if (own_end (slice_get rules n))
-  end-at n =
-      pattern_at-back (read_by start_text rules) (read_by own_end rules) (length rules + n) n (let long = length-read start_text rules in omega (arith, long))
-      ∙ pattern_at-read own_end refl rules n
-
-  pub length-both : length (patterns_read rules) ≡ length rules + length rules
-  length-both =
-      let long = length-append (read_by start_text rules) (read_by own_end rules) in
-      let a = length-read start_text rules in
-      let b = length-read own_end rules in
-      omega (arith, long, a, b)
-
   start-numbered : (m : ℕ) (b : Bool) → nat_lt m (length rules) ≡ b → pattern_at (patterns_read rules) (cond b m (length rules + length rules)) ≡ parsed_if (start_text (slice_get rules m))
   start-numbered m true e =
       pattern_at-front (read_by start_text rules) (read_by own_end rules) m (let long = length-read start_text rules in grind (arith, nat_tests, long))
@@ -100,6 +88,24 @@ module _ (rules : List Rule) where
   one-numbered n End =
       pattern_at-back (read_by start_text rules) (read_by own_end rules) (length rules + n) n (let long = length-read start_text rules in omega (arith, long))
       ∙ pattern_at-read own_end refl rules n
+
+  -- two for each rule
+  pub twice : (patterns : List (Option Pattern)) → trees_of patterns ≡ patterns_read rules → length patterns ≡ length rules + length rules
+  twice patterns e =
+      sym (length-map patterns (option_map tree_of)) ∙ ap length e ∙ length-append (read_by start_text rules) (read_by own_end rules)
+      ∙ ap₂ (λ a b. a + b) (length-read start_text rules) (length-read own_end rules)
+
+  -- what is known of a rule's patterns, once they are read
+  pub known : (n : ℕ) (rule : Rule) (reads : Reads) → n < length rules → slice_get rules n ≡ Some rule →
+      reads.start ≡ is_some (pattern_at (patterns_read rules) n) → reads.end ≡ is_some (pattern_at (patterns_read rules) (length rules + n)) → AreKnown rule reads
+  known n rule reads low at start end = (
+    start ∙ ap is_some (start-numbered n true (grind (arith, nat_tests)) ∙ ap (λ r. parsed_if (start_text r)) at) ∙ told (start_text (Some rule)),
+    end ∙ ap is_some (one-numbered n End ∙ ap (λ r. parsed_if (own_end r)) at) ∙ told (own_end (Some rule)),
+  )
+    where
+      told : (text : Option (List ℕ)) → is_some (parsed_if text) ≡ is_read text
+      told None = refl
+      told (Some text) = refl
 
   pub all-numbered : (n : ℕ) (cs : List Candidate) → patterns_at (patterns_read rules) (map (number_of (length rules) n) cs) ≡ map (own_pattern rules n) cs
   all-numbered n [] = refl

@@ -2,18 +2,19 @@
 ghost use Rattle.std.specs.Prelude.{◌≡◌, ◌<◌, ◌^◌, ◌+◌, ◌++◌, ◌∷◌, flat_map, length, map, slice_get, Some, None, IfOk, OnOk, MatchOption};
 ghost use Rattle.std.specs.Option.{option_copied};
 ghost use Rattle.tm_onig_scan.specs.Winner.{trees_of};
+ghost use Rattle.tm_rules.specs.Candidates.{flattened_candidates};
 ghost use Rattle.tm_defs.specs.declared.rules.Rule.{Rule};
 ghost use Rattle.tm_line_lint.specs.Unread.{AreKnown, unread_in};
-ghost use Rattle.tm_rules.specs.Candidates.{flattened_candidates};
 ghost use Rattle.tm_line.specs.inner.Prepared.{AreInsides, IsInside, number_of, patterns_read};
 
 use crate::names::fixed_scopes;
-use crate::texts::{content_name_in, end_last_in, name_in, own_end, start_text};
+use crate::texts::{content_name_in, end_last_in, name_in};
 use std::alloc::Global;
 use std::marker::Model;
 use tm_defs::memory::OutOfMemory;
 use tm_defs::rules::Rule;
 use tm_defs::texts::ScopePath;
+use tm_line_lint::texts::{own_end, start_text};
 use tm_line_lint::{Reads, Unread, add_unreadable};
 use tm_onig_atom::store::Sets;
 use tm_onig_scan::Scanner;
@@ -67,13 +68,7 @@ fn number_of(count: u32, n: u32, candidate: Candidate) -> u32
     ensures { result ≡ number_of count n candidate }
 {
     match candidate {
-        Candidate::Start(m) => {
-            if m < count {
-                m
-            } else {
-                count + count
-            }
-        }
+        Candidate::Start(m) => { if m < count { m } else { count + count } }
         Candidate::End => count + n,
     }
 }
@@ -96,7 +91,7 @@ fn numbers_of(
     Ok(numbers)
 }
 
-/// The patterns of the rules. The sets that they name are in the store that is lent, from then on.
+/// The patterns of the rules.
 fn scanner_of(alloc: Global, sets: &mut Sets, rules: &Rules) -> Result<Scanner, OutOfMemory>
     ensures { IfOk result (λ scanner. trees_of scanner ≡ patterns_read rules.now) }
 {
@@ -111,12 +106,7 @@ fn scanner_of(alloc: Global, sets: &mut Sets, rules: &Rules) -> Result<Scanner, 
 }
 
 /// What is searched inside a rule.
-fn inside_of(
-    alloc: Global,
-    rules: &Rules,
-    scanner: &Scanner,
-    n: u32,
-) -> Result<Inside, OutOfMemory>
+fn inside_of(alloc: Global, rules: &Rules, scanner: &Scanner, n: u32) -> Result<Inside, OutOfMemory>
     requires few { length rules.now < 2 ^ 31 }
     requires within { n < length rules.now }
     requires read { trees_of scanner.now ≡ patterns_read rules.now }
@@ -149,7 +139,8 @@ fn insides_of(alloc: Global, rules: &Rules, scanner: &Scanner) -> Result<Vec<Ins
 }
 
 impl Prepared {
-    /// The same rules, with their patterns read. 2^31 rules or more are want of memory.
+    /// The same rules, with their patterns read, by the store of sets that is lent. 2^31 rules or more are want of
+    /// memory.
     pub fn build(alloc: Global, sets: &mut Sets, rules: Rules) -> Result<Self, OutOfMemory>
         ensures { IfOk result (λ built. built ≡ rules) }
     {
@@ -168,31 +159,30 @@ impl Prepared {
         })
     }
 
-    /// Which patterns of a rule are readable, as they stand in the grammar.
-    fn reads_of(&self, n: u32) -> Reads
-        requires few { length self.now < 2 ^ 31 }
-        requires within { n < length self.now }
+    /// What is known of the patterns of the rule of a number: they have been read.
+    fn reads(&self, n: u32) -> Reads
+        requires { n < length self.now }
         ensures { (rule : Rule) → slice_get self.now n ≡ Some rule → AreKnown rule result }
     {
         let count = self.rules.len();
-        Reads {
-            start: self.scanner.readable(n),
-            end: self.scanner.readable(count + n),
-        }
+        let all = self.scanner.len();
+        let start = self.scanner.readable(n);
+        let end = self.scanner.readable(all - count + n);
+        Reads { start, end }
     }
 
-    /// The unreadable patterns of the rules. What was read is not read again.
-    pub(crate) fn unreadable(&self, sets: &mut Sets) -> Result<Vec<Unread>, OutOfMemory>
+    /// The unreadable patterns, by rising number of their rules, and of one rule in the order begin, end, match, while.
+    pub(crate) fn unreadable(
+        &self,
+        alloc: Global,
+        sets: &mut Sets,
+    ) -> Result<Vec<Unread>, OutOfMemory>
         ensures { IfOk result (λ all. all.items ≡ flat_map unread_in self.now) }
     {
-        let count = self.rules.len();
-        let mut found = Vec::new(self.alloc);
-        if count >= 1 << 31 {
-            return Err(OutOfMemory);
-        }
-        for n in 0..count {
-            let reads = self.reads_of(n);
-            add_unreadable(self.alloc, sets, &mut found, self.rules.rule(n), reads)?;
+        let mut found = Vec::new(alloc);
+        for n in 0..self.rules.len() {
+            let reads = self.reads(n);
+            add_unreadable(alloc, sets, &mut found, self.rules.rule(n), reads)?;
         }
         Ok(found)
     }

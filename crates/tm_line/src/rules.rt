@@ -14,6 +14,7 @@ use tm_defs::memory::OutOfMemory;
 use tm_defs::tables::States;
 use tm_defs::texts::{Name, ScopePath};
 use tm_defs::tokenizer::LineFault;
+use tm_line_lint::texts::own_end;
 use tm_line_parts::rules::{LineRules, Question};
 use tm_line_turns::captures::GroupRule;
 use tm_line_turns::found::{Match, Whose, Winner};
@@ -62,7 +63,7 @@ impl Prepared {
         ensures { option_copied result ≡ own_end (slice_get self.now rule) }
     {
         match self.rule(rule) {
-            Some(rule) => texts::own_end(rule),
+            Some(rule) => own_end(rule),
             None => None,
         }
     }

@@ -1,34 +1,10 @@
 //! The texts of a rule, whatever its kind.
 ghost use Rattle.std.specs.Prelude.{◌≡◌, Some};
 ghost use Rattle.std.specs.Option.{option_copied};
-ghost use Rattle.tm_rules.specs.Readers.{content_name_in, end_last_in, name_in, own_end, start_text};
+ghost use Rattle.tm_rules.specs.Readers.{content_name_in, end_last_in, name_in};
 
 use tm_defs::rules::Rule;
 use tm_defs::texts::Name;
-
-/// The text of the pattern that starts a rule.
-pub fn start_text(rule: &Rule) -> Option<&Name>
-    ensures { option_copied result ≡ start_text (Some rule.now) }
-{
-    match rule {
-        Rule::Match { match_text, .. } => Some(match_text),
-        Rule::BeginEnd { begin, .. } => Some(begin),
-        Rule::BeginWhile { begin, .. } => Some(begin),
-        Rule::Only { .. } => None,
-    }
-}
-
-/// The text of the pattern that ends it, as it stands in the grammar.
-pub fn own_end(rule: &Rule) -> Option<&Name>
-    ensures { option_copied result ≡ own_end (Some rule.now) }
-{
-    match rule {
-        Rule::BeginEnd { end_text, .. } => end_text.as_ref(),
-        Rule::Match { .. } => None,
-        Rule::BeginWhile { .. } => None,
-        Rule::Only { .. } => None,
-    }
-}
 
 /// Whether its end is tried behind its patterns, where it has an end.
 pub fn end_last_in(rule: &Rule) -> Option<bool>

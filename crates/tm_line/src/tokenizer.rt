@@ -61,7 +61,7 @@ fn setting_of(alloc: Global, scope_name: &Name, rules: Rules) -> Result<Setting,
     let scopes = words(alloc, scope_name)?;
     let mut sets = Sets::new(alloc);
     let rules = Prepared::build(alloc, &mut sets, rules)?;
-    let unread = rules.unreadable(&mut sets)?;
+    let unread = rules.unreadable(alloc, &mut sets)?;
     Ok(Setting {
         scopes,
         rules,

@@ -12,7 +12,7 @@ ghost use Rattle.tm_rules.specs.Sizes.{rule_limit};
 ghost use Rattle.tm_rules.specs.declared.grammars.RulesFault.TheVariants as fault;
 ghost use Rattle.tm_line_lint.specs.Unread.{unread_in, AreKnown};
 
-mod texts;
+pub mod texts;
 
 use std::alloc::Global;
 use tm_defs::memory::OutOfMemory;

@@ -40,7 +40,7 @@ fn is_read(alloc: Global, sets: &mut Sets, text: Option<&Name>) -> Result<bool, 
 }
 
 /// The text of the pattern that starts a rule.
-fn start_text(rule: &Rule) -> Option<&Name>
+pub fn start_text(rule: &Rule) -> Option<&Name>
     ensures { option_copied result ≡ start_text (Some rule.now) }
 {
     match rule {
@@ -52,7 +52,7 @@ fn start_text(rule: &Rule) -> Option<&Name>
 }
 
 /// The text of the pattern that ends it, as it stands in the grammar.
-fn end_text(rule: &Rule) -> Option<&Name>
+pub fn own_end(rule: &Rule) -> Option<&Name>
     ensures { option_copied result ≡ own_end (Some rule.now) }
 {
     match rule {
@@ -64,11 +64,11 @@ fn end_text(rule: &Rule) -> Option<&Name>
 }
 
 /// Reads the patterns of a rule, to know whether they are readable.
-pub fn reads_of(alloc: Global, sets: &mut Sets, rule: &Rule) -> Result<Reads, OutOfMemory>
+pub(crate) fn reads_of(alloc: Global, sets: &mut Sets, rule: &Rule) -> Result<Reads, OutOfMemory>
     ensures { IfOk result (AreKnown rule.now) }
 {
     let start = is_read(alloc, sets, start_text(rule))?;
-    let end = is_read(alloc, sets, end_text(rule))?;
+    let end = is_read(alloc, sets, own_end(rule))?;
     Ok(Reads { start, end })
 }
 
@@ -144,7 +144,7 @@ fn is_end_readable(
 }
 
 /// Adds the unreadable patterns of a rule, of whose patterns this is known.
-pub fn look_in(
+pub(crate) fn look_in(
     alloc: Global,
     sets: &mut Sets,
     found: &mut Vec<Unread>,

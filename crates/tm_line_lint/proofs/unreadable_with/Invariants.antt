@@ -1,7 +1,5 @@
-use Rattle.std.proofs.Common.{◌≡◌, ◌++◌, drop}
-use Rattle.std.specs.Prelude.{flat_map}
-use Rattle.tm_line_lint.specs.Unread.{unread_in}
+use Rattle.tm_line_lint.proofs.Listed.{AreListedTo}
 use Rattle.tm_line_lint.proofs.unreadable_with.Given as goal
 
 abbrev pub invariant-loop-n : goal.invariant-loop-n
-invariant-loop-n l = l.found.items ++ flat_map unread_in (drop l.n l.rules) ≡ flat_map unread_in l.rules
+invariant-loop-n l = AreListedTo l.rules l.n l.found.items
