@@ -24,6 +24,7 @@ ghost use Rattle.tm_onig_scan.specs.Winner.{earliest_winner, scan_cost};
 ghost use Rattle.tm_line.specs.Example.{found_at, patterns, text};
 ghost use Rattle.tm_line.specs.Grammar.{rules_language};
 
+mod groups;
 mod names;
 pub mod prepared;
 mod rules;

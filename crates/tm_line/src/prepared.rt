@@ -5,6 +5,7 @@ ghost use Rattle.tm_onig_scan.specs.Winner.{trees_of};
 ghost use Rattle.tm_rules.specs.Candidates.{flattened_candidates};
 ghost use Rattle.tm_line.specs.inner.Prepared.{AreInsides, IsInside, number_of, patterns_read};
 
+use crate::groups::Groups;
 use crate::names::fixed_scopes;
 use crate::texts::{content_name_in, end_last_in, name_in, own_end, start_text};
 use std::alloc::Global;
@@ -23,13 +24,14 @@ const ENDS_KEPT: u32 = 256;
 
 /// What is searched inside a rule: its candidates by the numbers of their patterns, in their order, and whether its end
 /// is the last of them or the first, where it has an end. And the names that it pushes, where they are the same for
-/// every match.
+/// every match, and what it says of groups.
 #[derive(Drop)]
 pub struct Inside {
     pub list: Candidates,
     pub end_last: Option<bool>,
     pub name: Option<ScopePath>,
     pub content_name: Option<ScopePath>,
+    pub groups: Groups,
 }
 
 /// The rules by number, one scanner of the patterns that start them and of those that end them, what is searched
@@ -128,6 +130,7 @@ fn inside_of(
         end_last: end_last_in(rule),
         name: fixed_scopes(alloc, name_in(rule))?,
         content_name: fixed_scopes(alloc, content_name_in(rule))?,
+        groups: Groups::of(alloc, rule)?,
     })
 }
 
