@@ -75,4 +75,3 @@ module _ (rules : List Rule) where
       subst AreStarts (sym (e ∙ rw at refl)) (starts-flattened patterns)
   listed n (R.Only grammar path name content_name patterns) cs at e =
       subst AreStarts (sym (e ∙ rw at refl)) (starts-contributed (unopened rules []) [] n)
-

@@ -65,13 +65,7 @@ fn number_of(count: u32, n: u32, candidate: Candidate) -> u32
     ensures { result ≡ number_of count n candidate }
 {
     match candidate {
-        Candidate::Start(m) => {
-            if m < count {
-                m
-            } else {
-                count + count
-            }
-        }
+        Candidate::Start(m) => { if m < count { m } else { count + count } }
         Candidate::End => count + n,
     }
 }
@@ -109,12 +103,7 @@ fn scanner_of(alloc: Global, rules: &Rules) -> Result<Scanner, OutOfMemory>
 }
 
 /// What is searched inside a rule.
-fn inside_of(
-    alloc: Global,
-    rules: &Rules,
-    scanner: &Scanner,
-    n: u32,
-) -> Result<Inside, OutOfMemory>
+fn inside_of(alloc: Global, rules: &Rules, scanner: &Scanner, n: u32) -> Result<Inside, OutOfMemory>
     requires few { length rules.now < 2 ^ 31 }
     requires within { n < length rules.now }
     requires read { trees_of scanner.now ≡ patterns_read rules.now }
