@@ -1,16 +1,16 @@
 -- The patterns of rules, as they are read rule by rule, and as they stand at the numbers of candidates.
-use Rattle.std.proofs.Common.{◌≡◌, ℕ, zero, suc, ◌+◌, ◌-◌, ◌<◌, ◌≤◌, ◌++◌, Bool, true, false, cond, nat_lt, List, [], ◌∷◌, length, length-append, map, take, Some, None, Option, refl, ap, ap₂, sym, ◌∙◌, add-one, arith, append_assoc, append-nil}
+use Rattle.std.proofs.Common.{◌≡◌, ℕ, zero, suc, ◌+◌, ◌-◌, ◌<◌, ◌≤◌, ◌++◌, Bool, true, false, cond, nat_lt, List, [], ◌∷◌, length, length-append, map, take, Some, None, Option, refl, ap, ap₂, sym, ◌∙◌, add-one, arith, append_assoc}
 use Rattle.std.specs.Prelude.{slice_get, slice_set}
 use Rattle.std.proofs.lemmas.Bool.Decides.{nat_tests}
 use Rattle.std.proofs.lemmas.Option.{slice_get_past}
 use Rattle.tm_defs.specs.declared.frames.FrameData.{FrameData}
 use Rattle.tm_onig_class.specs.Tree.{Tree}
 use Rattle.tm_onig_scan.specs.Winner.{parsed_if, pattern_at, patterns_at}
-use Rattle.tm_rules.specs.Candidates.{flattened_candidates, with_end_if}
+use Rattle.tm_rules.specs.Candidates.{with_end_if}
 use Rattle.tm_rules.specs.declared.candidate.Candidate.{Candidate}
 use Rattle.tm_rules.specs.declared.candidate.Candidate.TheVariants.{Start, End}
 use Rattle.tm_defs.specs.declared.rules.Rule.{Rule}
-use Rattle.tm_line.specs.Search.{start_text, own_end, pattern_of, patterns_in}
+use Rattle.tm_line.specs.Search.{start_text, own_end, pattern_of}
 use Rattle.tm_line.specs.inner.Prepared.{Counts, StandsIn, counted_end, end_place, number_of, patterns_read, read_by, replaced}
 
 -- one rule more
