@@ -1,5 +1,5 @@
--- The grammar file, in the form that is built: any grammar without captures, `while` rules and injections (TextMate 1.x
--- manual, Language Grammars, with the keys of vscode-textmate).
+-- The grammar file, in the form that is built: any grammar without `while` rules and injections (TextMate 1.x manual,
+-- Language Grammars, with the keys of vscode-textmate).
 use Rattle.std.specs.Prelude.{ℕ, List, [], ◌∷◌, map, length, Bool, false, ◌||◌, nat_lt, Option, Some, None, is_some, Result}
 use Rattle.serde_json.specs.Data.{Data}
 use Rattle.tm_grammar.specs.File.{GrammarTree, grammar_of}
@@ -20,21 +20,26 @@ abbrev pub some_listed : Option (List Bool) → Bool
 some_listed None = false
 some_listed (Some items) = some_item items
 
--- whether one is true of what names stand for
-abbrev pub some_named : List (List ℕ × Bool) → Bool
-some_named [] = false
-some_named (named ∷ rest) = named.1 || some_named rest
+-- whether one is true of what names, or the numbers of groups, stand for
+abbrev pub some_keyed : {K : Type 0} → List (K × Bool) → Bool
+some_keyed [] = false
+some_keyed (keyed ∷ rest) = keyed.1 || some_keyed rest
 
--- a rule with one of the keys that are not built yet, or with such a rule in its patterns or its repository
+abbrev pub some_captured : Option (List (ℕ × Bool)) → Bool
+some_captured None = false
+some_captured (Some captures) = some_keyed captures
+
+-- a rule with one of the keys that are not built yet, or with such a rule in its captures, its patterns or its repository
 abbrev pub later_by : RawRule-F Bool → Bool
-later_by r = is_some r.while_text || is_some r.captures || is_some r.begin_captures || is_some r.end_captures || is_some r.while_captures
-    || some_listed r.patterns || some_named r.repository
+later_by r = is_some r.while_text || is_some r.while_captures
+    || some_captured r.captures || some_captured r.begin_captures || some_captured r.end_captures
+    || some_listed r.patterns || some_keyed r.repository
 
 -- whether the rule, or one inside it at any depth, has such a key
 abbrev pub has_later : RawRule → Bool
 has_later = fold-RawRule Bool later_by
 
--- the same of a list, and of a repository
+-- the same of a list, of captures, and of a repository
 abbrev pub has_later_item : List RawRule → Bool
 has_later_item rules = some_item (map has_later rules)
 
@@ -42,8 +47,12 @@ abbrev pub has_later_listed : Option (List RawRule) → Bool
 has_later_listed None = false
 has_later_listed (Some rules) = has_later_item rules
 
-abbrev pub has_later_named : List (List ℕ × RawRule) → Bool
-has_later_named rules = some_named (map (λ t. (t.0, has_later t.1)) rules)
+abbrev pub has_later_keyed : {K : Type 0} → List (K × RawRule) → Bool
+has_later_keyed rules = some_keyed (map (λ t. (t.0, has_later t.1)) rules)
+
+abbrev pub has_later_captured : Option (List (ℕ × RawRule)) → Bool
+has_later_captured None = false
+has_later_captured (Some captures) = has_later_keyed captures
 
 -- a grammar that injects, that is injected, or that has such a rule
 abbrev pub is_later : GrammarTree → Bool

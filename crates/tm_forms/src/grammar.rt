@@ -1,7 +1,7 @@
 //! The grammar file, which `tm_grammar` reads as a raw tree.
 ghost use Rattle.std.specs.Prelude.{◌≡◌, Ok, Err, if◌then◌else◌};
 ghost use Rattle.tm_forms.specs.declared.form.Refusal.TheVariants.{NotYet};
-ghost use Rattle.tm_forms.specs.Grammar.{has_later, has_later_listed, has_later_named, is_later};
+ghost use Rattle.tm_forms.specs.Grammar.{has_later, has_later_captured, has_later_keyed, has_later_listed, is_later};
 
 use crate::form::{Form, Refusal};
 use crate::utf8;
@@ -10,7 +10,7 @@ use tm_defs::memory::OutOfMemory;
 use tm_defs::texts::Name;
 use tm_grammar::fault::JsonFault;
 use tm_grammar::grammar::RawGrammar;
-use tm_grammar::raw::{RawList, RawRule};
+use tm_grammar::raw::{RawCaptures, RawList, RawRule};
 
 /// Whether a rule, or one inside it, has a key that is not built yet.
 #[cycle(later)]
@@ -18,13 +18,31 @@ use tm_grammar::raw::{RawList, RawRule};
 fn has_later(raw: &RawRule) -> bool
     ensures { result ≡ has_later raw.now }
 {
-    if raw.while_text.is_some() || raw.captures.is_some() || raw.begin_captures.is_some() {
+    if raw.while_text.is_some() || raw.while_captures.is_some() {
         return true;
     }
-    if raw.end_captures.is_some() || raw.while_captures.is_some() {
+    if later_captured(&raw.captures) || later_captured(&raw.begin_captures) {
         return true;
     }
-    later_listed(&raw.patterns) || later_named(raw.repository.as_slice())
+    later_captured(&raw.end_captures)
+        || later_listed(&raw.patterns)
+        || later_named(raw.repository.as_slice())
+}
+
+#[cycle(later)]
+fn later_captured(captures: &Option<RawCaptures>) -> bool
+    ensures { result ≡ has_later_captured captures.now }
+{
+    let Some(captures) = captures else {
+        return false;
+    };
+    let all = captures.as_slice();
+    for i in 0..all.len() {
+        if has_later(&all[i].1) {
+            return true;
+        }
+    }
+    false
 }
 
 #[cycle(later)]
@@ -45,7 +63,7 @@ fn later_listed(rules: &Option<RawList>) -> bool
 
 #[cycle(later)]
 fn later_named(rules: &[(Name, RawRule)]) -> bool
-    ensures { result ≡ has_later_named rules.now }
+    ensures { result ≡ has_later_keyed rules.now }
 {
     for i in 0..rules.len() {
         if has_later(&rules[i].1) {

@@ -9,6 +9,7 @@ use Rattle.tm_rules.specs.Candidates.{flattened_candidates}
 use Rattle.tm_rules.specs.Readers.{name_in, content_name_in}
 use Rattle.tm_template.specs.Ends.{has_reference, resolved}
 use Rattle.tm_template.specs.Names.{names_of}
+use Rattle.tm_line.specs.Groups.{groups_of}
 use Rattle.tm_line.specs.Search.{own_end, patterns_in, winner_in}
 
 -- the scopes of a name over a match, with what its groups captured
@@ -21,8 +22,7 @@ abbrev pub end_made_of : List ℕ → Match → Option (List ℕ) → Option (Li
 end_made_of text m None = None
 end_made_of text m (Some end) = if has_reference end then Some (resolved end text m.groups) else None
 
--- A turn searches every candidate of the open rule. Of the groups of a match nothing is said: grammars that have captures are
--- not read yet.
+-- A turn searches every candidate of the open rule.
 abbrev pub rules_language : List Rule → Language
 rules_language rules = record {
   rules = length rules;
@@ -31,7 +31,7 @@ rules_language rules = record {
   names = λ text rule m. scopes_of text m (name_in (slice_get rules rule));
   content_names = λ text rule m. scopes_of text m (content_name_in (slice_get rules rule));
   end_text = λ text rule m. end_made_of text m (own_end (slice_get rules rule));
-  captures = λ whose rule. [];
+  captures = λ whose rule. groups_of whose (slice_get rules rule);
   filled = λ text m template. names_of template text m.groups;
   meta = metadata_of;
 }

@@ -1,5 +1,6 @@
 pub mod Example
 pub mod Grammar
+pub mod Groups
 pub mod Search
 pub mod Setting
 pub mod Tokenizing

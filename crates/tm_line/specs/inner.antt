@@ -1,3 +1,4 @@
 pub mod FoundWithin
+pub mod Grouped
 pub mod Prepared
 pub mod Searched

@@ -18,12 +18,15 @@
 #![tactic(auto)]
 
 ghost use Rattle.std.specs.Prelude.{◌≡◌, ℕ, true, false, List};
+ghost use Rattle.tm_line.specs.Groups.{IsNamedByTemplate};
+ghost use Rattle.tm_line_turns.specs.declared.found.Match.{Match};
 ghost use Rattle.tm_line_turns.specs.Language.{IsRunAtEachDepth};
 ghost use Rattle.tm_defs.specs.declared.rules.Rule.{Rule};
 ghost use Rattle.tm_onig_scan.specs.Winner.{earliest_winner, scan_cost};
 ghost use Rattle.tm_line.specs.Example.{found_at, patterns, text};
 ghost use Rattle.tm_line.specs.Grammar.{rules_language};
 
+mod groups;
 mod names;
 pub mod prepared;
 mod rules;
@@ -35,6 +38,11 @@ pub mod tokenizer;
 /// A line has exactly one outcome, whatever its rules.
 pub fn one_outcome()
     ensures { (rules : List Rule) → IsRunAtEachDepth (rules_language rules) }
+{}
+
+/// The name of a group pushes what its template gives at the match, also where its words were found once for all matches.
+pub fn groups_are_named()
+    ensures { (template text : List ℕ) (m : Match) → IsNamedByTemplate template text m }
 {}
 
 /// The first two turns of the table at the head of this module, computed by the definitions.

@@ -7,6 +7,7 @@ ghost use Rattle.tm_defs.specs.declared.rules.Rule.{Rule};
 ghost use Rattle.tm_line_lint.specs.Unread.{AreKnown, unread_in};
 ghost use Rattle.tm_line.specs.inner.Prepared.{AreInsides, IsInside, number_of, patterns_read};
 
+use crate::groups::Groups;
 use crate::names::fixed_scopes;
 use crate::texts::{content_name_in, end_last_in, name_in};
 use std::alloc::Global;
@@ -28,13 +29,14 @@ const ENDS_KEPT: u32 = 256;
 
 /// What is searched inside a rule: its candidates by the numbers of their patterns, in their order, and whether its end
 /// is the last of them or the first, where it has an end. And the names that it pushes, where they are the same for
-/// every match.
+/// every match, and what it says of groups.
 #[derive(Drop)]
 pub struct Inside {
     pub list: Candidates,
     pub end_last: Option<bool>,
     pub name: Option<ScopePath>,
     pub content_name: Option<ScopePath>,
+    pub groups: Groups,
 }
 
 /// The rules by number, one scanner of the patterns that start them and of those that end them, what is searched
@@ -122,6 +124,7 @@ fn inside_of(alloc: Global, rules: &Rules, scanner: &Scanner, n: u32) -> Result<
         end_last: end_last_in(rule),
         name: fixed_scopes(alloc, name_in(rule))?,
         content_name: fixed_scopes(alloc, content_name_in(rule))?,
+        groups: Groups::of(alloc, rule)?,
     })
 }
 

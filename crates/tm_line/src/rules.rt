@@ -125,8 +125,11 @@ impl LineRules for Prepared {
         end_made_of(self.alloc, self.own_end(rule), text, m)
     }
 
-    fn captures(&self, _whose: Whose, _rule: u32) -> &[GroupRule] {
-        &[]
+    fn captures(&self, whose: Whose, rule: u32) -> &[GroupRule] {
+        match self.inside(rule) {
+            Some(inside) => inside.groups.at(whose),
+            None => &[],
+        }
     }
 
     fn filled(&self, text: &[char], m: &Match, template: &Name) -> Result<ScopePath, OutOfMemory> {

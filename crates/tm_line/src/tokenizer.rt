@@ -72,8 +72,8 @@ fn setting_of(alloc: Global, scope_name: &Name, rules: Rules) -> Result<Setting,
 
 impl Setting {
     /// A setting of these grammars, whose patterns are read once and for all. Each line takes its buffers
-    /// from `alloc`. A pattern that is unreadable matches nowhere. Captures and the patterns of `while` are
-    /// kept and not used: a rule with `while` begins, and does not end.
+    /// from `alloc`. A pattern that is unreadable matches nowhere. Patterns of `while` are kept and not used: a rule
+    /// with `while` begins, and does not end.
     pub fn build(alloc: Global, parts: Parts) -> Result<Self, RulesFault>
         ensures setting { IfOk result (λ setting. setting ≡ setting_of parts.grammars) }
         // They are refused exactly where there are more than 65,535 rules.

@@ -11,6 +11,7 @@ use Rattle.tm_rules.specs.Readers.{content_name_in, end_last_in, name_in}
 use Rattle.tm_rules.specs.declared.candidate.Candidate.{Candidate}
 use Rattle.tm_rules.specs.declared.candidate.Candidate.TheVariants.{Start, End}
 use Rattle.tm_line.specs.Grammar.{scopes_of}
+use Rattle.tm_line.specs.inner.Grouped.{AreGroups}
 use Rattle.tm_line.specs.Search.{end_text, own_end, start_text}
 use Rattle.tm_line.specs.declared.prepared.Inside.{Inside}
 
@@ -32,7 +33,8 @@ number_of count n End = count + n
 abbrev pub AreNamesOf : Option (List ℕ) → Option (List (List ℕ)) → Type 0
 AreNamesOf name fixed = MatchOption fixed ⊤ (λ names. (text : List ℕ) (m : Match) → names ≡ scopes_of text m name)
 
--- this is what is searched inside the rule of a number, and which names it pushes
+-- this is what is searched inside the rule of a number, which names it pushes,
+-- and what it says of groups
 pub record IsInside (rules : List Rule) (n : ℕ) (inside : Inside) : Type 0 where
   pub known : n < length rules
   pub few : length inside.list.numbers.items < 2 ^ 32
@@ -41,6 +43,7 @@ pub record IsInside (rules : List Rule) (n : ℕ) (inside : Inside) : Type 0 whe
   pub end_last : inside.end_last ≡ end_last_in (slice_get rules n)
   pub name : AreNamesOf (name_in (slice_get rules n)) inside.name
   pub content_name : AreNamesOf (content_name_in (slice_get rules n)) inside.content_name
+  pub groups : AreGroups (slice_get rules n) inside.groups
 
 -- each has that of its rule
 pub record AreInsides (rules : List Rule) (insides : List Inside) : Type 0 where

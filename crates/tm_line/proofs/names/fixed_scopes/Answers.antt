@@ -1,4 +1,3 @@
-use Rattle.std.specs.Prelude.{IfOk}
 use Rattle.tm_line.proofs.Fixed.{are-names}
 use Rattle.tm_line.proofs.names.fixed_scopes.Goals as goal
 

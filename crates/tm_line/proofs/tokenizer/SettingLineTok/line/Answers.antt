@@ -1,4 +1,4 @@
-use Rattle.std.proofs.Common.{◌∙◌, subst, sym}
+use Rattle.std.proofs.Common.{◌∙◌, subst}
 use Rattle.std.specs.Prelude.{IfErr}
 use Rattle.tm_defs.specs.Tables.{state_at}
 use Rattle.tm_defs.specs.Tokenizer.{IsLineCause}
