@@ -6,3 +6,5 @@ pub mod Laws
 pub mod Line
 pub mod LineRun
 pub mod Painted
+pub mod WhilePass
+pub mod Whiles

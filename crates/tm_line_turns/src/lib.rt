@@ -29,6 +29,7 @@ pub mod found;
 pub mod groups;
 pub mod painter;
 mod threads;
+pub mod whiles;
 
 /// A line has exactly one outcome: the one that satisfies the equation of its turns.
 pub fn one_outcome()
