@@ -1,4 +1,5 @@
 pub mod Depths
+pub mod Passes
 pub mod Pieces
 pub mod Reach
 pub mod Runs

@@ -1,12 +1,12 @@
 -- What the tokenizing of a whole line gives, by the rules of a language and the scopes of every token: first the while
 -- pass, then the turns.
-use Rattle.std.specs.Prelude.{ℕ, List, [], ◌∷◌, ◌++◌, length, map, reverse, Bool, true, false, Option, Some, None, if◌then◌else◌}
+use Rattle.std.specs.Prelude.{◌≡◌, ℕ, List, [], ◌∷◌, ◌++◌, ◌||◌, length, map, reverse, Bool, true, false, Option, Some, None, if◌then◌else◌}
 use Rattle.tm_defs.specs.declared.frames.FrameData.{FrameData}
 use Rattle.tm_defs.specs.Tables.{TableEntries, none_made, more_made}
 use Rattle.tm_defs.specs.Tokenizer.{Tokenized}
 use Rattle.tm_paint.specs.Painted.{scopes_at, runs_of}
 use Rattle.tm_line_turns.specs.Language.{Language, grammar_of}
-use Rattle.tm_line_turns.specs.LineRun.{Open, Place, Outcome, earlier, frames_of, joined, line_run, names_made, plain, states_made}
+use Rattle.tm_line_turns.specs.LineRun.{Open, Place, Outcome, earlier, frames_of, joined, line_run, names_made, nothing, plain, states_made}
 use Rattle.tm_line_turns.specs.WhilePass.{Passed, while_pass}
 
 -- the opening state stands for the one frame of the root, rule 0, with the scopes of every token
@@ -71,3 +71,21 @@ module _ (l : Language) (scopes : List (List ℕ)) (start : List FrameData) (lin
   -- the steps of all searches of the line
   abbrev pub line_cost : ℕ
   line_cost = outcome_of.part.cost
+
+-- a line's start in all rules that earlier lines opened, the innermost first (no line has none)
+abbrev pub resumed : List FrameData → Option ℕ → Bool → Place
+resumed [] anchor first = record { top = earlier (plain 0 [] false); below = []; at = 0; anchor = anchor; first = first }
+resumed (f ∷ fs) anchor first = record { top = earlier f; below = map earlier fs; at = 0; anchor = anchor; first = first }
+
+abbrev pub resumed_place : List (List ℕ) → List FrameData → Place
+resumed_place scopes start = resumed (reverse (start_state scopes start)) (start_anchor (reverse start)) (is_opening start)
+
+-- one of them has a `while`
+abbrev pub some_while : (ℕ → Bool) → List FrameData → Bool
+some_while has_while [] = false
+some_while has_while (f ∷ fs) = has_while f.rule || some_while has_while fs
+
+-- where none has, all are held up, by no search
+abbrev pub HoldsUpAll : Language → Type 0
+HoldsUpAll l = (scopes : List (List ℕ)) (start : List FrameData) (line : List ℕ) → some_while l.has_while start ≡ false →
+    passed_of l scopes start line ≡ record { part = nothing; place = resumed_place scopes start }

@@ -21,6 +21,7 @@ ghost use Rattle.std.specs.Prelude.{◌≡◌, ◌∷◌, [], None, false};
 ghost use Rattle.tm_paint.specs.Painted.{runs_of, scopes_at};
 ghost use Rattle.tm_line_turns.specs.Example.{example, start, root, keyword, group, depth, token};
 ghost use Rattle.tm_line_turns.specs.Language.{FindsInText, GroupsAddNothing, HasNoCaptures, IsRunAtEachDepth, Language};
+ghost use Rattle.tm_line_turns.specs.Line.{HoldsUpAll};
 ghost use Rattle.tm_line_turns.specs.LineRun.{Grammar, earlier, line_run, opened, plain};
 ghost use Rattle.tm_line_turns.specs.Laws.{FindsWithin, IsLineRun};
 
@@ -55,4 +56,9 @@ pub fn one_outcome_at_each_depth()
 /// Where no rule says anything of a group, lines are those of a grammar in which groups add nothing.
 pub fn groups_add_nothing()
     ensures { (l : Language) → HasNoCaptures l → GroupsAddNothing l }
+{}
+
+/// Where no open rule has a `while`, a line holds up all of them.
+pub fn all_are_held_up()
+    ensures { (l : Language) → HoldsUpAll l }
 {}
