@@ -1,4 +1,5 @@
 pub mod Depths
+pub mod Moves
 pub mod Passes
 pub mod Pieces
 pub mod Reach

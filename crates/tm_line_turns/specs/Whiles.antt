@@ -129,6 +129,16 @@ lost_regex = language_of marked (seek 1 1 3 Nothing ∷ []) (hold 1 0 false 4 (S
 abbrev pub lost_quote : Language
 lost_quote = language_of marked (seek 0 0 7 Nothing ∷ []) (hold 1 0 false 7 None ∷ [])
 
+-- The comment alone, which begins with `^>` and goes on while `^>` does: on `> a`, `> b` and `c`
+abbrev pub begun_block : Language
+begun_block = language_of [] (seek 0 0 4 (Begins 1 (match_of 0 1 [])) ∷ []) []
+
+abbrev pub held_block : Language
+held_block = language_of [] [] (hold 1 0 false 4 (Some (match_of 0 1 [])) ∷ [])
+
+abbrev pub lost_block : Language
+lost_block = language_of [] (seek 0 0 7 Nothing ∷ []) (hold 1 0 false 7 None ∷ [])
+
 -- The regex goes on while `\Ga` does, and what is inside it began with the end of the last line: on `a`, where `\Ga` is
 -- found at 0 with 4 steps; without an anchor there it is not, with 4 steps too.
 abbrev pub at_start : Language

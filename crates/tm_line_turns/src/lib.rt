@@ -24,6 +24,7 @@ ghost use Rattle.tm_line_turns.specs.Language.{FindsInText, GroupsAddNothing, Ha
 ghost use Rattle.tm_line_turns.specs.Line.{HoldsUpAll};
 ghost use Rattle.tm_line_turns.specs.LineRun.{Grammar, earlier, line_run, opened, plain};
 ghost use Rattle.tm_line_turns.specs.Laws.{FindsWithin, IsLineRun};
+ghost use Rattle.tm_line_turns.specs.Moves.{IsOrdered};
 
 pub mod captures;
 pub mod found;
@@ -35,6 +36,11 @@ pub mod whiles;
 /// A line has exactly one outcome: the one that satisfies the equation of its turns.
 pub fn one_outcome()
     ensures { (g : Grammar) → FindsWithin g → IsLineRun g }
+{}
+
+/// At one position the ends come before any begin, and the begins are at most as many as there are rules.
+pub fn turns_at_one_position()
+    ensures { (g : Grammar) → FindsWithin g → IsOrdered g }
 {}
 
 /// The line at the head of this module, computed by the definitions: its tokens, where the metadata

@@ -13,7 +13,7 @@ ghost use Rattle.std.specs.Prelude.{◌≡◌, ◌∷◌, [], true, false};
 ghost use Rattle.tm_line_turns.specs.Groups.{comment, keyword, regex, root, string, token_of};
 ghost use Rattle.tm_line_turns.specs.Whiles.{end_in, scopes_in, steps_of, tokens_in};
 ghost use Rattle.tm_line_turns.specs.Whiles.{in_comment, in_keyword, in_regex, in_root};
-ghost use Rattle.tm_line_turns.specs.Whiles.{again_quote, ahead, at_start, begun_quote, held_quote, lost_quote, lost_regex};
+ghost use Rattle.tm_line_turns.specs.Whiles.{again_quote, ahead, at_start, begun_block, begun_quote, held_block, held_quote, lost_block, lost_quote, lost_regex};
 
 /// The four lines at the head of this module.
 pub fn worked_quote()
@@ -32,6 +32,17 @@ pub fn worked_quote()
     ensures outer { tokens_in lost_quote (in_root ∷ in_comment ∷ []) (98 ∷ []) ≡ token_of 0 root ∷ [] }
     ensures outer_end { end_in lost_quote (in_root ∷ in_comment ∷ []) (98 ∷ []) ≡ in_root ∷ [] }
     ensures outer_steps { steps_of lost_quote (in_root ∷ in_comment ∷ []) (98 ∷ []) ≡ 14 }
+{}
+
+/// A block quote alone: `> a`, `> b` and `c`.
+pub fn worked_block()
+    ensures begins { tokens_in begun_block [] (62 ∷ 32 ∷ 97 ∷ []) ≡ token_of 0 comment ∷ [] }
+    ensures begins_end { end_in begun_block [] (62 ∷ 32 ∷ 97 ∷ []) ≡ in_root ∷ in_comment ∷ [] }
+    ensures held { tokens_in held_block (in_root ∷ in_comment ∷ []) (62 ∷ 32 ∷ 98 ∷ []) ≡ token_of 0 comment ∷ [] }
+    ensures held_end { end_in held_block (in_root ∷ in_comment ∷ []) (62 ∷ 32 ∷ 98 ∷ []) ≡ in_root ∷ in_comment ∷ [] }
+    ensures lost { tokens_in lost_block (in_root ∷ in_comment ∷ []) (99 ∷ []) ≡ token_of 0 root ∷ [] }
+    ensures lost_end { end_in lost_block (in_root ∷ in_comment ∷ []) (99 ∷ []) ≡ in_root ∷ [] }
+    ensures lost_steps { steps_of lost_block (in_root ∷ in_comment ∷ []) (99 ∷ []) ≡ 14 }
 {}
 
 /// A rule that is not held up takes all those in it with it, and leaves those around it, with or without a `while`; the
