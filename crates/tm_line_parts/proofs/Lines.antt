@@ -76,8 +76,8 @@ module _ (l : Language) (scopes : List (List ℕ)) (state : List FrameData) (lin
   as-start : (r : Result Way LineFault) → Starts l.meta (length text) (joined start_part (begun text).part) (begun text).place t u out now r → Starts l.meta (length text) first_part pass.place t u out now r
   as-start r h = let P : List ℕ → Type 0 = λ x. Starts l.meta (length text) (joined start_part (begun x).part) (begun x).place t u out now r in subst P whole h
 
-  pub start-fails : {X : Type 0} (e : LineFault) → Starts l.meta (length text) (joined start_part (begun text).part) (begun text).place t u out now (Err e) → Tokenizes l scopes state line t u out.budget (Err e)
-  start-fails {X} e h = refusal {X = X} u now e (as-whole {X = X} u now (Err e) (first-fails l.meta first_part (joined run.part end_part) t u out now e (as-start (Err e) h).adds))
+  pub start-fails : (e : LineFault) → Starts l.meta (length text) (joined start_part (begun text).part) (begun text).place t u out now (Err e) → Tokenizes l scopes state line t u out.budget (Err e)
+  start-fails e h = refusal {X = Way} u now e (as-whole {X = Way} u now (Err e) (first-fails l.meta first_part (joined run.part end_part) t u out now e (as-start (Err e) h).adds))
 
   module _ (way : Way) (started : Starts l.meta (length text) (joined start_part (begun text).part) (begun text).place t u out now (Ok way)) (v : Tables) (new : Out) (w : Way) where
     from : Starts l.meta (length text) first_part pass.place t u out now (Ok way)

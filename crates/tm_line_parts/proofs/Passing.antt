@@ -1,6 +1,6 @@
 -- The while pass, and what is left of it.
 use Rattle.std.proofs.Common.{◌≡◌, ℕ, ◌<◌, ◌≤◌, ◌++◌, List, [], ◌∷◌, length, map, reverse, max, cond, arith, Option, Some, None, Bool, true, false, refl, ap, sym, ◌∙◌, subst, append_assoc}
-use Rattle.std.specs.Prelude.{Result, Ok, Err, ◌||◌}
+use Rattle.std.specs.Prelude.{Result, Ok, Err, IfOk, ◌||◌, not}
 use Rattle.std.proofs.lemmas.Bool.Decides.{nat_tests}
 use Rattle.std.proofs.lemmas.List.{append-nil, reverse-append}
 use Rattle.tm_defs.specs.declared.frames.Frame.{Frame}
@@ -22,6 +22,14 @@ use Rattle.tm_line_parts.specs.Stacks.{AreNumbers, IsStack, Stands, frames_at, p
 use Rattle.tm_line_parts.proofs.Adding.{IsBegun, ends, ends-fault, fails, first-fails, next, same-fault, same-part, then-any}
 use Rattle.tm_line_parts.proofs.LayerSteps.{none-added}
 use Rattle.tm_line_parts.proofs.StacksGrown.{frame-known, frame-same, map-push}
+
+pub not-false : (b : Bool) → not b ≡ false → b ≡ true
+not-false true e = refl
+not-false false e = absurd cc
+
+pub not-true : (b : Bool) → not b ≡ true → b ≡ false
+not-true false e = refl
+not-true true e = absurd cc
 
 -- one of several, by the last
 or-assoc : (a b c : Bool) → (a || (b || c)) ≡ ((a || b) || c)
@@ -199,6 +207,12 @@ module _ (meta : List (List ℕ) → ℕ) (len : ℕ) (g : Grammar) (scopes : Li
           stands = tt;
           within = tt;
         })
+
+  -- a line that holds up all rules starts so
+  pub start-whole : (state : List FrameData) (t v : Tables) (o : Out) (r : Result Way LineFault) → IfOk r (λ way. IsStack v way.stack) → IfOk r (λ way. way.at ≡ 0) → IfOk r (λ way. place_at v way ≡ resumed_place scopes state) →
+      Adds meta (makes (start_made scopes state)) t v o o r → Starts meta len (makes (start_made scopes state)) (resumed_place scopes state) t v o o r
+  start-whole state t v o (Ok w) known at is adds = record { adds = adds; stands = record { stack = known; place = is }; within = omega (arith, at) }
+  start-whole state t v o (Err e) known at is adds = record { adds = adds; stands = tt; within = tt }
 
   -- no rule has a `while`
   pub start-free : (state : List FrameData) (t v : Tables) (o : Out) (r : Result Way LineFault) → some_while g.has_while state ≡ false → Starts meta len (makes (start_made scopes state)) (resumed_place scopes state) t v o o r →

@@ -22,12 +22,12 @@ returns g c =
     let m = c.args.m.now in
     let kept = c.in-Ok.ensures t c.requires.stack c.requires.frame in
     let scopes = path_at t c.args.frame.contents in
-    let grew = c.in_default.ensures.grows in
+    let grew = c.in_default-covers.ensures.grows in
     let at : c.keep.new.way.at ≡ w.at = ap (λ (q : Place). q.at) kept.place in
     let first : c.keep.new.way.first ≡ w.first = ap (λ (q : Place). q.first) kept.place in
     let far : max w.at m.end ≤ length c.args.level.now.text.now = max-within w.at m.end (length c.args.level.now.text.now) c.requires.at c.requires.within.end in
-    held-goes s.meta (length c.args.level.now.text.now) grammar p o t m v c.args.out.now c.covers.new.out c.advance.new.way c.in_default.field-0
-    (covered-as s.meta grammar AtWhile c.args.frame.rule m w.first t v c.args.out.now c.covers.new.out (Ok c.in_default.field-0) _ (o ∷ stack_of p) scopes scopes scopes scopes (ap stack_of kept.place) refl refl c.in_default.ensures)
+    held-goes s.meta (length c.args.level.now.text.now) grammar p o t m v c.args.out.now c.covers.new.out c.advance.new.way c.in_default-covers.field-0
+    (covered-as s.meta grammar AtWhile c.args.frame.rule m w.first t v c.args.out.now c.covers.new.out (Ok c.in_default-covers.field-0) _ (o ∷ stack_of p) scopes scopes scopes scopes (ap stack_of kept.place) refl refl c.in_default-covers.ensures)
     (rw c.advance.ensures.stack (stack-known _ t v grew c.keep.new.way.stack kept.stack))
     (place-is v c.advance.new.way o (o ∷ stack_of p) (max w.at m.end) (Some m.end) _ (ap (stack_at v) c.advance.ensures.stack ∙ stack-same _ t v grew c.keep.new.way.stack kept.stack ∙ ap stack_of kept.place) (rw at at c.advance.ensures.at) c.advance.ensures.anchor (rw (at, first) at c.advance.ensures.first))
     (rw (c.advance.ensures.at, at) far)
