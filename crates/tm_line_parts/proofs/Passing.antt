@@ -1,6 +1,6 @@
 -- The while pass, and what is left of it.
 use Rattle.std.proofs.Common.{◌≡◌, ℕ, ◌<◌, ◌≤◌, ◌++◌, List, [], ◌∷◌, length, map, reverse, max, cond, arith, Option, Some, None, Bool, true, false, refl, ap, sym, ◌∙◌, subst, append_assoc}
-use Rattle.std.specs.Prelude.{Result, Ok, Err, IfOk, ◌||◌, not}
+use Rattle.std.specs.Prelude.{Result, Ok, Err, IfOk, ◌||◌}
 use Rattle.std.proofs.lemmas.Bool.Decides.{nat_tests}
 use Rattle.std.proofs.lemmas.List.{append-nil, reverse-append}
 use Rattle.tm_defs.specs.declared.frames.Frame.{Frame}
@@ -22,14 +22,6 @@ use Rattle.tm_line_parts.specs.Stacks.{AreNumbers, IsStack, Stands, frames_at, p
 use Rattle.tm_line_parts.proofs.Adding.{IsBegun, ends, ends-fault, fails, first-fails, next, same-fault, same-part, then-any}
 use Rattle.tm_line_parts.proofs.LayerSteps.{none-added}
 use Rattle.tm_line_parts.proofs.StacksGrown.{frame-known, frame-same, map-push}
-
-pub not-false : (b : Bool) → not b ≡ false → b ≡ true
-not-false true e = refl
-not-false false e = absurd cc
-
-pub not-true : (b : Bool) → not b ≡ true → b ≡ false
-not-true false e = refl
-not-true true e = absurd cc
 
 -- one of several, by the last
 or-assoc : (a b c : Bool) → (a || (b || c)) ≡ ((a || b) || c)

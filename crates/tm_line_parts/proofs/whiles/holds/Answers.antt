@@ -4,7 +4,7 @@ use Rattle.tm_line_turns.specs.Language.{grammar_at}
 use Rattle.tm_line_turns.specs.LineRun.{earlier}
 use Rattle.tm_line_parts.specs.declared.rules.Out.{Out}
 use Rattle.tm_line_parts.specs.Stacks.{place_at}
-use Rattle.tm_line_parts.proofs.Passing.{not-false, search-done, test-as}
+use Rattle.tm_line_parts.proofs.Passing.{search-done, test-as}
 use Rattle.tm_line_parts.proofs.whiles.holds.Goals as goal
 
 pub returns-in-Ok-Some-clause-tests : goal.returns-in-Ok-Some-clause-tests
@@ -18,7 +18,7 @@ returns-in-Ok-Some-clause-tests g c =
     let p = place_at t w in
     let o = earlier (frame_at t c.args.frame) in
     let now : Out = record { pieces = c.args.out.now.pieces; budget = c.while_match.new.budget } in
-    let has = sym c.has_while.ensures ∙ not-false c.has_while.result c.if-not-has_while.false in
+    let has = sym c.has_while.ensures ∙ c.if-not-has_while.false in
     let is = sym c.in-Ok-Some.field-0-is ∙ c.in-Ok-Some.ensures.found ∙ ap (s.while_match text (frame_at t c.args.frame) w.at w.first) c.is_anchored-anchored.ensures in
     test-as s.meta (length text) grammar p o t true v c.args.out.now c.holds_up.new.out c.holds_up.new.way c.holds_up.result has
     (search-done s.meta (length text) grammar p o t (Some c.in-Ok-Some.m) v c.args.out.now now c.holds_up.new.out c.holds_up.new.way c.holds_up.result is (rw c.is_anchored-anchored.ensures at c.in-Ok-Some.ensures.spends) refl c.holds_up.ensures)
