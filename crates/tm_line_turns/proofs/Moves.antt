@@ -34,16 +34,16 @@ module _ (g : Grammar) (p : Place) where
   ended-kept m (next ∷ rest) = both (Kept g p (Ends m)) (not (advances p m) && is_at p.top.entry p.at) _ _
       (λ _ q e stays. absurd cc)
       (λ free q e stays.
-          let at : max p.at m.end ≡ p.at = ap (λ (x : Place). x.at) (goes-at _ q e) ∙ stays in
-          let far : is_at p.top.entry p.at ≡ false = ap (λ b. not b && is_at p.top.entry p.at) (sym (stays-not p m at)) ∙ free in
-          ap (λ b. cond b (p.top.frame.rule ∷ near p.at p.below) []) far)
+      let at : max p.at m.end ≡ p.at = ap (λ (x : Place). x.at) (goes-at _ q e) ∙ stays in
+      let far : is_at p.top.entry p.at ≡ false = ap (λ b. not b && is_at p.top.entry p.at) (sym (stays-not p m at)) ∙ free in
+      ap (λ b. cond b (p.top.frame.rule ∷ near p.at p.below) []) far)
 
   matched-kept : (rule : ℕ) (m : Match) (names : List (List ℕ)) → Kept g p (Matches rule m) (matched g p rule m names)
   matched-kept rule m names = both (Kept g p (Matches rule m)) (advances p m) _ _
       (λ so q e stays.
-          let at : max p.at m.end ≡ p.at = ap (λ (x : Place). x.at) (goes-at _ q e) ∙ stays in
-          let not_so : advances p m ≡ false = stays-not p m at in
-          absurd cc)
+      let at : max p.at m.end ≡ p.at = ap (λ (x : Place). x.at) (goes-at _ q e) ∙ stays in
+      let not_so : advances p m ≡ false = stays-not p m at in
+      absurd cc)
       (λ _ q e stays. absurd cc)
 
   entered-near : (rule : ℕ) (m : Match) (top : Open) (q : Place) → top.frame.rule ≡ rule → is_at top.entry p.at ≡ true → onward p m top (stack_of p) (Some m.end) ≡ q → q.at ≡ p.at → near q.at (stack_of q) ≡ rule ∷ near p.at (stack_of p)
@@ -55,11 +55,12 @@ module _ (g : Grammar) (p : Place) where
   begun-kept : (rule : ℕ) (m : Match) (end_text : Option (List ℕ)) (names content_names : List (List ℕ)) → Kept g p (Begins rule m) (begun g p rule m end_text names content_names)
   begun-kept rule m end_text names content_names = both (Kept g p (Begins rule m)) (nat_lt (length (stack_of p)) most_open) _ _
       (λ _. both (Kept g p (Begins rule m)) (not (advances p m) && has (near p.at (stack_of p)) rule) _ _
-          (λ _ q e stays. absurd cc)
-          (λ free q e stays.
-              let at : max p.at m.end ≡ p.at = ap (λ (x : Place). x.at) (goes-at _ q e) ∙ stays in
-              (entered-near rule m _ q refl (eq-eqb p.at p.at refl) (goes-at _ q e) stays,
-              ap (λ b. not b && has (near p.at (stack_of p)) rule) (sym (stays-not p m at)) ∙ free)))
+      (λ _ q e stays. absurd cc)
+      (λ free q e stays.
+      let at : max p.at m.end ≡ p.at = ap (λ (x : Place). x.at) (goes-at _ q e) ∙ stays in (
+        entered-near rule m _ q refl (eq-eqb p.at p.at refl) (goes-at _ q e) stays,
+        ap (λ b. not b && has (near p.at (stack_of p)) rule) (sym (stays-not p m at)) ∙ free,
+      )))
       (λ _ q e stays. absurd cc)
 
   by_winner-kept : (w : Winner) → Kept g p w (by_winner g p w)

@@ -33,7 +33,7 @@ loop-frame-preserved g c =
     let tests = rw c.in-Ok-true.field-0-test at c.in-Ok-true.ensures.tests in
     let grown = c.in-Ok-true.ensures.tests.adds.grows in
     let on = pass-on s.meta len (λ q. while_pass grammar q os) p all t u v c.args.out.now c.loop-frame.out c.holds.new.out c.holds.new.way test.part test.next
-        (subst P split c.loop-frame.invariant.left) (subst Q split c.loop-frame.invariant.same) tests in
+    (subst P split c.loop-frame.invariant.left) (subst Q split c.loop-frame.invariant.same) tests in
     let again = frames-same _ u v grown rest numbers in
     let S : List FrameData → Type 0 = λ l. IsBegun s.meta (while_pass grammar (place_at v c.holds.new.way) (map earlier l)).part all.part t v c.args.out.now c.holds.new.out in
     let T : List FrameData → Type 0 = λ l. (while_pass grammar (place_at v c.holds.new.way) (map earlier l)).place ≡ all.place in
@@ -64,7 +64,7 @@ returns-in-Ok-false-clause-passes g c =
     let P : List FrameData → Type 0 = λ l. IsBegun s.meta (while_pass grammar p (map earlier l)).part all.part t u c.args.out.now c.loop-frame.out in
     let Q : List FrameData → Type 0 = λ l. (while_pass grammar p (map earlier l)).place ≡ all.place in
     pass-stops s.meta len (λ q. while_pass grammar q os) p all t u v c.args.out.now c.loop-frame.out c.holds.new.out c.holds.new.way test.part test.next _
-        (subst P split c.loop-frame.invariant.left) (subst Q split c.loop-frame.invariant.same) (rw c.in-Ok-false.field-0-test at c.in-Ok-false.ensures.tests)
+    (subst P split c.loop-frame.invariant.left) (subst Q split c.loop-frame.invariant.same) (rw c.in-Ok-false.field-0-test at c.in-Ok-false.ensures.tests)
 
 pub returns-in-Err-clause-passes : goal.returns-in-Err-clause-passes
 returns-in-Err-clause-passes g c =
@@ -83,4 +83,4 @@ returns-in-Err-clause-passes g c =
     let split : frames_at u c.loop-frame.frames.items ≡ frame_at u c.in-Some.frame ∷ frames_at u rest = ap (frames_at u) c.in-Some.ensures.items ∙ frames-last u rest c.in-Some.frame in
     let P : List FrameData → Type 0 = λ l. IsBegun s.meta (while_pass grammar p (map earlier l)).part all.part t u c.args.out.now c.loop-frame.out in
     pass-fails s.meta len (λ q. while_pass grammar q os) p all t u v c.args.out.now c.loop-frame.out c.holds.new.out c.holds.new.way test.part test.next c.in-Err.fault
-        (subst P split c.loop-frame.invariant.left) c.in-Err.ensures.tests
+    (subst P split c.loop-frame.invariant.left) c.in-Err.ensures.tests
