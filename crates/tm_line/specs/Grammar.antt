@@ -1,5 +1,5 @@
 -- What rules say of every text, for the line relation.
-use Rattle.std.specs.Prelude.{ℕ, List, [], length, Option, Some, None, slice_get, if◌then◌else◌}
+use Rattle.std.specs.Prelude.{false, ℕ, List, [], length, Option, Some, None, slice_get, if◌then◌else◌}
 use Rattle.tm_defs.specs.declared.rules.Rule.{Rule}
 use Rattle.tm_line_turns.specs.declared.found.Match.{Match}
 use Rattle.tm_line_turns.specs.Language.{Language}
@@ -33,5 +33,8 @@ rules_language rules = record {
   end_text = λ text rule m. end_made_of text m (own_end (slice_get rules rule));
   captures = λ whose rule. groups_of whose (slice_get rules rule);
   filled = λ text m template. names_of template text m.groups;
+  has_while = λ rule. false;
+  while_match = λ text frame at first anchored. None;
+  while_cost = λ text frame at first anchored. 0;
   meta = metadata_of;
 }

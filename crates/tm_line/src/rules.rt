@@ -15,7 +15,7 @@ use tm_defs::tables::States;
 use tm_defs::texts::{Name, ScopePath};
 use tm_defs::tokenizer::LineFault;
 use tm_line_lint::texts::own_end;
-use tm_line_parts::rules::{LineRules, Question};
+use tm_line_parts::rules::{LineRules, Question, WhileQuestion};
 use tm_line_turns::captures::GroupRule;
 use tm_line_turns::found::{Match, Whose, Winner};
 use tm_meta::metadata::metadata;
@@ -134,6 +134,21 @@ impl LineRules for Prepared {
 
     fn filled(&self, text: &[char], m: &Match, template: &Name) -> Result<ScopePath, OutOfMemory> {
         name_of(self.alloc, template, text, &m.groups)
+    }
+
+    fn has_while(&self, _rule: u32) -> bool {
+        false
+    }
+
+    fn while_match<S: States>(
+        &self,
+        _room: &mut LineRoom,
+        _table: &S,
+        _text: &[char],
+        _asked: WhileQuestion,
+        _budget: &mut u64,
+    ) -> Result<Option<Match>, LineFault> {
+        Ok(None)
     }
 
     fn inner_room(&self, _text: &[char]) -> Result<LineRoom, OutOfMemory> {

@@ -41,7 +41,7 @@ same-fault meta part t u old new e h = record { pieces = tt; grows = h.grows; sp
 pub refused-behind : {X Y : Type 0} (meta : List (List ℕ) → ℕ) (part : Part) (t u : Tables) (old new : Out) (x : X) → Adds meta part t u old new (Ok x) → Adds {X = Y} meta part t u old new (Err line.OutOfMemory)
 refused-behind meta part t u old new x h = record { pieces = tt; grows = h.grows; spends = h.spends; cause = tt }
 
-painted-append : (meta : List (List ℕ) → ℕ) (a b : List Piece) → painted meta (a ++ b) ≡ painted meta a ++ painted meta b
+pub painted-append : (meta : List (List ℕ) → ℕ) (a b : List Piece) → painted meta (a ++ b) ≡ painted meta a ++ painted meta b
 painted-append meta [] b = refl
 painted-append meta (x ∷ xs) b = ap (λ l. record { end = x.end; meta = meta x.scopes } ∷ l) (painted-append meta xs b)
 

@@ -7,6 +7,7 @@ pub mod Interning
 pub mod LayerSteps
 pub mod Lines
 pub mod Naming
+pub mod Passing
 pub mod Paths
 pub mod Popping
 pub mod StacksGrown

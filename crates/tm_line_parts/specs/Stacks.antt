@@ -2,6 +2,7 @@
 use Rattle.std.specs.Prelude.{◌≡◌, ◌<◌, List, [], ◌∷◌, ◌++◌, length, map, reverse, false}
 use Rattle.std.specs.List.{AllByRecursion}
 use Rattle.tm_defs.specs.Tables.{Tables, IsFrameOf, frame_at, state_at}
+use Rattle.tm_defs.specs.declared.frames.Frame.{Frame}
 use Rattle.tm_defs.specs.declared.frames.FrameData.{FrameData}
 use Rattle.tm_line_turns.specs.Line.{resumed, start_anchor}
 use Rattle.tm_line_turns.specs.LineRun.{Open, Place, earlier}
@@ -34,6 +35,18 @@ pub record IsStack (t : Tables) (s : Stack) : Type 0 where
   pub below : AreFrames t s.below.items
   pub base : s.base.0 < length t.states
   pub deep : s.deep ≡ length (state_at t s.base)
+
+-- the way stands there, over such a stack
+pub record Stands (t : Tables) (p : Place) (w : Way) : Type 0 where
+  pub stack : IsStack t w.stack
+  pub place : place_at t w ≡ p
+
+-- frames alone, the innermost first in the vector, and the last in the list
+abbrev pub frames_at : Tables → List Frame → List FrameData
+frames_at t frames = map (frame_at t) (reverse frames)
+
+abbrev pub AreNumbers : Tables → List Frame → Type 0
+AreNumbers t frames = AllByRecursion (IsFrameOf t) frames
 
 -- the start of a line in a frame of an earlier line, over the frames below it
 abbrev pub resumed_over : FrameData → List FrameData → Place

@@ -9,7 +9,7 @@ use crate::ends::interned;
 use crate::rules::{Job, Level, LineRules, Out};
 use crate::run::run;
 use crate::stack::Way;
-use crate::start::start_way;
+use crate::whiles::started;
 use std::alloc::Global;
 use tm_defs::frames::StateId;
 use tm_defs::tables::{States, TableFault};
@@ -64,15 +64,15 @@ pub fn tokenize_line<S: States, R: LineRules>(
 {
     let pieces = Vec::new(job.alloc);
     let mut out = Out { pieces, budget };
-    let mut way = match start_way(job.alloc, table, scopes, start) {
-        Ok(way) => way,
-        Err(fault) => return Err(fault),
-    };
     let level = Level {
         alloc: job.alloc,
         rules: job.rules,
         text: job.text,
         depth: MOST_DEEP,
+    };
+    let mut way = match started(&level, room, table, &mut out, scopes, start) {
+        Ok(way) => way,
+        Err(fault) => return Err(fault),
     };
     if let Err(fault) = run(&level, room, table, &mut out, &mut way) {
         return Err(fault);

@@ -29,6 +29,16 @@ pub struct Question {
     pub anchored: bool,
 }
 
+/// What is asked of a rule that a line must hold up, whose frame this is: what its `while` finds from a position
+/// on, in characters. `\A` may match where `first` says so, and `\G` where `anchored` does.
+#[derive(Clone, Copy, Debug, PartialEq, Eq)]
+pub struct WhileQuestion {
+    pub frame: Frame,
+    pub at: usize,
+    pub first: bool,
+    pub anchored: bool,
+}
+
 /// Rules by number, as a line asks them.
 pub trait LineRules {
     /// What a line keeps for its searches.
@@ -94,6 +104,29 @@ pub trait LineRules {
     fn filled(&self, text: &[char], m: &Match, template: &Name) -> Result<ScopePath, OutOfMemory>
         requires { IsMatchWithin (length text.now) m.now }
         ensures { IfOk result (λ names. names ≡ (language self.now).filled text.now m.now template.now) };
+
+    /// Whether a rule has a `while`, by which each later line must hold it up.
+    fn has_while(&self, rule: u32) -> bool
+        ensures { result ≡ (language self.now).has_while rule };
+
+    /// What its `while` finds. `Budget` comes only where the search costs more than the budget.
+    fn while_match<S: States>(
+        &self,
+        room: &mut Self::Room,
+        table: &S,
+        text: &[char],
+        asked: WhileQuestion,
+        budget: &mut u64,
+    ) -> Result<Option<Match>, LineFault>
+        requires frame { IsFrameOf (S.tables table.now) asked.frame }
+        requires at { asked.at ≤ length text.now }
+        requires small { length text.now < 2 ^ 31 }
+        requires room { Fits self.now (S.tables table.now) text.now room.old }
+        ensures found { IfOk result (λ found. found ≡ (language self.now).while_match text.now (frame_at (S.tables table.now) asked.frame) asked.at asked.first asked.anchored) }
+        ensures within { IfOk result (λ found. MatchOption found ⊤ (IsMatchWithin (length text.now))) }
+        ensures spends { Spends ((language self.now).while_cost text.now (frame_at (S.tables table.now) asked.frame) asked.at asked.first asked.anchored) budget.old budget.new }
+        ensures cause { IfErr result (IsLineCause budget.old ((language self.now).while_cost text.now (frame_at (S.tables table.now) asked.frame) asked.at asked.first asked.anchored) none_made (S.tables table.now)) }
+        ensures room { Fits self.now (S.tables table.now) text.now room.new };
 
     /// A room for the text of a group.
     fn inner_room(&self, text: &[char]) -> Result<Self::Room, OutOfMemory>

@@ -294,7 +294,7 @@ fn matches<S: States, R: LineRules>(
 
 /// The scopes up to a match are painted, then its groups, and the scopes over it up to its end.
 #[cycle(turns)]
-fn covers<S: States, R: LineRules>(
+pub fn covers<S: States, R: LineRules>(
     level: &Level<R>,
     table: &mut S,
     out: &mut Out,

@@ -1,7 +1,7 @@
 //! Where a line starts.
 ghost use Rattle.std.specs.Prelude.{◌≡◌, ◌<◌, ℕ, List, [], length, IfOk};
 ghost use Rattle.tm_defs.specs.Tables.{IsFrameOf, frame_at, state_at};
-ghost use Rattle.tm_line_turns.specs.Line.{start_made, start_place};
+ghost use Rattle.tm_line_turns.specs.Line.{resumed_place, start_made};
 ghost use Rattle.tm_line_turns.specs.LineRun.{makes};
 ghost use Rattle.tm_line_parts.specs.declared.rules.Out.{Out};
 ghost use Rattle.tm_line_parts.specs.Adds.{Adds};
@@ -65,7 +65,7 @@ fn resumed<S: States>(
 fn opening<S: States>(alloc: Global, table: &mut S, scopes: &ScopePath) -> Result<Way, LineFault>
     ensures stack { IfOk result (λ way. IsStack (S.tables table.new) way.stack) }
     ensures at { IfOk result (λ way. way.at ≡ 0) }
-    ensures place { IfOk result (λ way. place_at (S.tables table.new) way ≡ start_place scopes.now []) }
+    ensures place { IfOk result (λ way. place_at (S.tables table.new) way ≡ resumed_place scopes.now []) }
     ensures adds { (meta : List (List ℕ) → ℕ) (o : Out) →
         Adds meta (makes (start_made scopes.now [])) (S.tables table.old) (S.tables table.new) o o result }
 {
@@ -95,7 +95,7 @@ fn opening<S: States>(alloc: Global, table: &mut S, scopes: &ScopePath) -> Resul
     })
 }
 
-/// The start of a line that begins in a state.
+/// The start of a line that begins in a state, and holds up all of its rules.
 pub fn start_way<S: States>(
     alloc: Global,
     table: &mut S,
@@ -105,7 +105,7 @@ pub fn start_way<S: States>(
     requires { start.0 < length (S.tables table.old).states }
     ensures stack { IfOk result (λ way. IsStack (S.tables table.new) way.stack) }
     ensures at { IfOk result (λ way. way.at ≡ 0) }
-    ensures place { IfOk result (λ way. place_at (S.tables table.new) way ≡ start_place scopes.now (state_at (S.tables table.old) start)) }
+    ensures place { IfOk result (λ way. place_at (S.tables table.new) way ≡ resumed_place scopes.now (state_at (S.tables table.old) start)) }
     ensures adds { let state = state_at (S.tables table.old) start in
         (meta : List (List ℕ) → ℕ) (o : Out) →
         Adds meta (makes (start_made scopes.now state)) (S.tables table.old) (S.tables table.new) o o result }

@@ -1,4 +1,6 @@
 pub mod Depths
+pub mod Moves
+pub mod Passes
 pub mod Pieces
 pub mod Reach
 pub mod Runs

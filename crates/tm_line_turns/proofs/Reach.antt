@@ -20,7 +20,7 @@ module _ (meta : List (List ℕ) → ℕ) (g : Grammar) where
   abbrev Reaches : Turn → Type 0
   Reaches t = IsLast t.part t.next
 
-  furthest-right : (a b : List Piece) → furthest (painted meta b) ≤ furthest (painted meta (a ++ b))
+  pub furthest-right : (a b : List Piece) → furthest (painted meta b) ≤ furthest (painted meta (a ++ b))
   furthest-right [] b = omega arith
   furthest-right (x ∷ xs) b = let h = furthest-right xs b in omega arith
 

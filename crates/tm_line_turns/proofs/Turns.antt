@@ -16,13 +16,13 @@ both P true x y t f = t refl
 both P false x y t f = f refl
 
 -- of no rules all are unused
-unused-none : (r : ℕ) → unused [] r ≡ r
+pub unused-none : (r : ℕ) → unused [] r ≡ r
 unfolding unused
 unused-none zero = refl
 unused-none (suc r) = let e = unused-none r in omega arith
 
 -- no more than all
-unused-max : (rules : List ℕ) (r : ℕ) → unused rules r ≤ r
+pub unused-max : (rules : List ℕ) (r : ℕ) → unused rules r ≤ r
 unfolding unused
 unused-max rules zero = omega arith
 unused-max rules (suc r) = both (λ n. n + unused rules r ≤ suc r) (has rules r) 0 1 (λ _. omega (arith, unused-max rules r)) (λ _. omega (arith, unused-max rules r))
@@ -39,7 +39,7 @@ unused-more k rules (suc r) = go (k == r) (has rules r) (unused-more k rules r)
     go false b h = omega arith
 
 -- a new one uses one more
-unused-less : (k : ℕ) (rules : List ℕ) (r : ℕ) → has rules k ≡ false → k < r → unused (k ∷ rules) r < unused rules r
+pub unused-less : (k : ℕ) (rules : List ℕ) (r : ℕ) → has rules k ≡ false → k < r → unused (k ∷ rules) r < unused rules r
 unfolding unused
 unused-less k rules zero fresh lt = absurd (omega arith)
 unused-less k rules (suc r) fresh lt = go (k == r) refl (λ below. unused-less k rules r fresh below)

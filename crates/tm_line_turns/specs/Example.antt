@@ -43,6 +43,9 @@ example = record {
   content_names = λ rule m. [];
   end_text = λ rule m. None;
   captured = λ whose rule m stack scopes first. nothing;
+  has_while = λ rule. false;
+  while_match = λ frame at first anchored. None;
+  while_cost = λ frame at first anchored. 0;
 }
 
 abbrev pub start : Place

@@ -60,6 +60,9 @@ language_of found names groups = record {
   captures = λ whose rule. groups rule;
   filled = λ text m template. [];
   meta = letter;
+  has_while = λ rule. false;
+  while_match = λ text frame at first anchored. None;
+  while_cost = λ text frame at first anchored. 0;
 }
 
 -- rules 3, 5 and 6 push a name

@@ -10,7 +10,8 @@ use Rattle.tm_line_turns.specs.Laws.{IsLineRun, IsWinnerWithin}
 use Rattle.tm_line_turns.specs.LineRun.{Grammar, Open, Place, line_run, most_open, nothing}
 
 -- as a `Grammar` says of one text; what a rule says of the groups of its pattern, in the order in which they are
--- walked; the names that a text with what a match captured gives; and the metadata of scopes
+-- walked; the names that a text with what a match captured gives; the metadata of scopes; and which rules each later
+-- line must hold up, what is found of that in a text, and the steps of that search
 pub record Language : Type 0 where
   pub rules : ℕ
   pub winner : List ℕ → FrameData → Bool → ℕ → Bool → Bool → Winner
@@ -21,6 +22,9 @@ pub record Language : Type 0 where
   pub captures : Whose → ℕ → List GroupRule
   pub filled : List ℕ → Match → List ℕ → List (List ℕ)
   pub meta : List (List ℕ) → ℕ
+  pub has_while : ℕ → Bool
+  pub while_match : List ℕ → FrameData → ℕ → Bool → Bool → Option Match
+  pub while_cost : List ℕ → FrameData → ℕ → Bool → Bool → ℕ
 
 -- what they say of this text, where its groups are tokenized again so
 abbrev pub grammar_by : Language → List ℕ → (Bool → List Open → Option Inner) → Grammar
@@ -33,6 +37,9 @@ grammar_by l text inner = record {
   content_names = l.content_names text;
   end_text = l.end_text text;
   captured = λ whose rule m stack base first. capture_productions (l.filled text m) base m (inner first stack) [] (l.captures whose rule);
+  has_while = l.has_while;
+  while_match = l.while_match text;
+  while_cost = l.while_cost text;
 }
 
 -- how the groups of a text are tokenized again: so many times one within the other, and where one more rule may be open

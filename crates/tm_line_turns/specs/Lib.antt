@@ -5,4 +5,7 @@ pub mod Language
 pub mod Laws
 pub mod Line
 pub mod LineRun
+pub mod Moves
 pub mod Painted
+pub mod WhilePass
+pub mod Whiles

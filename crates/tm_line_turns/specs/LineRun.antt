@@ -51,8 +51,10 @@ pub record Turn : Type 0 where
 -- position on by the innermost rule, whose end counts where the first Bool says that a rule is open around it,
 -- where `\A` matches where the second says so, and `\G` where the third does; the steps of that search; the names
 -- that a found rule pushes, and those that it pushes for what is inside it alone; the text that ends it, where that
--- depends on what its begin captured; and what the groups of a match add, where these rules are open, these scopes are
--- over the match, and `\A` may match
+-- depends on what its begin captured; what the groups of a match add, where these rules are open, these scopes are
+-- over the match, and `\A` may match; whether a rule has a `while`, by which each later line must hold it up; what is
+-- found of that from a position on, where `\A` matches where the first Bool says so, and `\G` where the second does;
+-- and the steps of that search
 pub record Grammar : Type 0 where
   pub rules : ℕ
   pub end : ℕ
@@ -62,6 +64,9 @@ pub record Grammar : Type 0 where
   pub content_names : ℕ → Match → List (List ℕ)
   pub end_text : ℕ → Match → Option (List ℕ)
   pub captured : Whose → ℕ → Match → List Open → List (List ℕ) → Bool → Part
+  pub has_while : ℕ → Bool
+  pub while_match : FrameData → ℕ → Bool → Bool → Option Match
+  pub while_cost : FrameData → ℕ → Bool → Bool → ℕ
 
 abbrev pub stack_of : Place → List Open
 stack_of p = p.top ∷ p.below

@@ -21,18 +21,26 @@ ghost use Rattle.std.specs.Prelude.{◌≡◌, ◌∷◌, [], None, false};
 ghost use Rattle.tm_paint.specs.Painted.{runs_of, scopes_at};
 ghost use Rattle.tm_line_turns.specs.Example.{example, start, root, keyword, group, depth, token};
 ghost use Rattle.tm_line_turns.specs.Language.{FindsInText, GroupsAddNothing, HasNoCaptures, IsRunAtEachDepth, Language};
+ghost use Rattle.tm_line_turns.specs.Line.{HoldsUpAll};
 ghost use Rattle.tm_line_turns.specs.LineRun.{Grammar, earlier, line_run, opened, plain};
 ghost use Rattle.tm_line_turns.specs.Laws.{FindsWithin, IsLineRun};
+ghost use Rattle.tm_line_turns.specs.Moves.{IsOrdered};
 
 pub mod captures;
 pub mod found;
 pub mod groups;
 pub mod painter;
 mod threads;
+pub mod whiles;
 
 /// A line has exactly one outcome: the one that satisfies the equation of its turns.
 pub fn one_outcome()
     ensures { (g : Grammar) → FindsWithin g → IsLineRun g }
+{}
+
+/// At one position the ends come before any begin, and the begins are at most as many as there are rules.
+pub fn turns_at_one_position()
+    ensures { (g : Grammar) → FindsWithin g → IsOrdered g }
 {}
 
 /// The line at the head of this module, computed by the definitions: its tokens, where the metadata
@@ -54,4 +62,9 @@ pub fn one_outcome_at_each_depth()
 /// Where no rule says anything of a group, lines are those of a grammar in which groups add nothing.
 pub fn groups_add_nothing()
     ensures { (l : Language) → HasNoCaptures l → GroupsAddNothing l }
+{}
+
+/// Where no open rule has a `while`, a line holds up all of them.
+pub fn all_are_held_up()
+    ensures { (l : Language) → HoldsUpAll l }
 {}
