@@ -9,7 +9,7 @@ use Rattle.tm_grammar.specs.File.{GrammarTree}
 use Rattle.tm_forms.specs.declared.form.Refusal.{Refusal}
 use Rattle.tm_forms.specs.Settings.{SettingFilesData, SettingsData, settings_in}
 use Rattle.tm_forms.specs.Grammar.{grammar_in}
-use Rattle.tm_forms.specs.declared.script.Scripted.{Scripted}
+use Rattle.tm_script.specs.declared.steps.Scripted.{Scripted}
 use Rattle.tm_rules.specs.Sizes.{rule_limit}
 use Rattle.tm_app.specs.declared.play.Fault.{Fault}
 use Rattle.tm_app.specs.declared.play.Fault.TheVariants as fault

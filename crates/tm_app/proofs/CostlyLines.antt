@@ -6,11 +6,11 @@ use Rattle.tm_defs.specs.declared.events.Step.TheVariants as step
 use Rattle.tm_defs.specs.declared.events.Turn.{Turn}
 use Rattle.tm_defs.specs.declared.events.Turn.TheVariants.{Done, Idle, Blocked}
 use Rattle.tm_defs.specs.declared.frames.FrameData.{FrameData}
-use Rattle.tm_forms.specs.declared.script.ScriptStep.{ScriptStep}
-use Rattle.tm_forms.specs.declared.script.ScriptStep.TheVariants.{Core, SettleQuietly, Show}
-use Rattle.tm_forms.specs.declared.script.Scripted.{Scripted}
+use Rattle.tm_script.specs.declared.steps.ScriptStep.{ScriptStep}
+use Rattle.tm_script.specs.declared.steps.ScriptStep.TheVariants.{Core, Show}
+use Rattle.tm_script.specs.declared.steps.Scripted.{Scripted}
 use Rattle.tm_machine.specs.declared.entries.Entry.{Entry}
-use Rattle.tm_machine.specs.Documents.{Rules, Answer, Edited, Lined, Forced, HasRightEntries}
+use Rattle.tm_machine.specs.Documents.{Rules, Answer, Edited, Set, Lined, Forced, Refused, HasRightEntries}
 use Rattle.tm_machine.specs.Machine.{Machine, ForeSteps, machine_of, seen}
 use Rattle.tm_machine.specs.Turns.{Turns, Forces}
 use Rattle.tm_machine.specs.Reach.{stand_in, stands_of}
@@ -19,12 +19,12 @@ use Rattle.tm_machine.proofs.BlockedFronts.{front-costs, forces-blocked}
 use Rattle.tm_machine.proofs.ReachedTables.{front-start, stands-first}
 use Rattle.tm_machine.proofs.RightRuns.{right-new, right-step}
 use Rattle.tm_machine.proofs.SoundSteps.{text-follows}
-use Rattle.tm_app.specs.Play.{Prints, Plays, Acts, machine_steps}
-use Rattle.tm_app.specs.Printed.{tells_from, tells_blocked, answer_text, quiet_text, turn_text, work_text, blocked_text}
+use Rattle.tm_app.specs.Play.{WasDone, Prints, Plays, machine_steps}
+use Rattle.tm_app.specs.Printed.{tells_from, tells_blocked, answer_text, turn_text}
 use Rattle.tm_app.specs.inner.Stands.{Tells}
 use Rattle.tm_app.specs.Stops.{HasCostlyLine}
 use Rattle.tm_app.proofs.PlayRuns.{step-first}
-use Rattle.tm_app.proofs.Tells.{nothing-tells, both-tell, turn-tells, work-tells, blocked-tells, shown-tells}
+use Rattle.tm_app.proofs.Tells.{nothing-tells, forced-tells, turn-tells, shown-tells}
 
 abbrev Right : Rules → Machine → Type 0
 Right r m = HasRightEntries r (seen m.fore)
@@ -57,56 +57,46 @@ module _ (r : Rules) where
   turn-told m Idle after h t = (false, turn-tells Idle, λ e. absurd cc)
   turn-told m (Blocked i) after h t = (true, turn-tells (Blocked i), λ e. (i, blocked-costs m i after h t))
 
-  forced-costs : (m : Machine) (count : ℕ) (blocked : Option ℕ) (after : List (Entry (List FrameData))) → Right r m →
-      Forces (r.setting m.fore.epoch) r.budget m.fore.text.lines (length m.fore.text.lines - 1) m.fore.entries count blocked after → is_some blocked ≡ true → (i : ℕ) × Costs m i
-  forced-costs m count None after h f e = absurd cc
-  forced-costs m count (Some i) after h f e = (i, (forces-blocked (r.setting m.fore.epoch) r.budget m.fore.text.lines (length m.fore.text.lines - 1) m.fore.entries count i after h f).costs)
+  forced-costs : (m : Machine) (last count : ℕ) (blocked : Option ℕ) (after : List (Entry (List FrameData))) → Right r m →
+      Forces (r.setting m.fore.epoch) r.budget m.fore.text.lines last m.fore.entries count blocked after → is_some blocked ≡ true → (i : ℕ) × Costs m i
+  forced-costs m last count None after h f e = absurd cc
+  forced-costs m last count (Some i) after h f e = (i, (forces-blocked (r.setting m.fore.epoch) r.budget m.fore.text.lines last m.fore.entries count i after h f).costs)
 
-  answer-told : (m n : Machine) (s : Step) (a : Answer) → Right r m → Acts r m s a n → Told m (answer_text a)
-  answer-told m n (step.Edit c) (Edited version) h d = (false, nothing-tells, λ e. absurd cc)
-  answer-told m n step.Line (Lined turn) h d = turn-told m turn d.1.0 h d.1.1
-  answer-told m n step.Settle (Forced done blocked) h d =
-      (is_some blocked, both-tell (work_text done) (blocked_text blocked) false (is_some blocked) (work-tells done) (blocked-tells blocked), forced-costs m done blocked d.1.0 h d.1.1)
-  answer-told m n _ _ h d = absurd d
+  answer-told : (quiet : Bool) (m n : Machine) (s : Step) (a : Answer) → Right r m → WasDone a → ForeSteps r m s a n → Told m (answer_text quiet a)
+  answer-told quiet m n s (Refused why) h w d = absurd w
+  answer-told quiet m n (step.Edit c) (Edited version) h w d = (false, nothing-tells, λ e. absurd cc)
+  answer-told quiet m n (step.Setting number) Set h w d = (false, nothing-tells, λ e. absurd cc)
+  answer-told quiet m n step.Line (Lined turn) h w d = turn-told m turn d.1.0 h d.1.1
+  answer-told quiet m n (step.Force line) (Forced done blocked) h w d = let f = d.1.1 in (is_some blocked, forced-tells quiet done blocked, forced-costs m line done blocked f.0 h f.1)
+  answer-told quiet m n step.Settle (Forced done blocked) h w d = (is_some blocked, forced-tells quiet done blocked, forced-costs m (length m.fore.text.lines - 1) done blocked d.1.0 h d.1.1)
+  answer-told quiet m n _ _ h w d = absurd d.1
 
-  quiet-told : (m n : Machine) (a : Answer) → Right r m → Acts r m step.Settle a n → Told m (quiet_text a)
-  quiet-told m n (Forced done blocked) h d = (is_some blocked, blocked-tells blocked, forced-costs m done blocked d.1.0 h d.1.1)
-  quiet-told m n _ h d = absurd d
-
-  prints-told : (m n : Machine) (s : ScriptStep) (bytes : List ℕ) → Right r m → Prints r m s bytes n → Told m bytes
-  prints-told m n (Core s) bytes h p = told-as m (answer_text p.0) bytes p.2 (answer-told m n s p.0 h p.1)
-  prints-told m n SettleQuietly bytes h p = told-as m (quiet_text p.0) bytes p.2 (quiet-told m n p.0 h p.1)
-  prints-told m n Show bytes h p = told-as m _ bytes p.1 (false, shown-tells m.fore.entries, λ e. absurd cc)
+  prints-told : (quiet : Bool) (m n : Machine) (s : ScriptStep) (bytes : List ℕ) → Right r m → Prints quiet r m s bytes n → Told m bytes
+  prints-told quiet m n (Core s) bytes h p = told-as m (answer_text quiet p.0) bytes p.3 (answer-told quiet m n s p.0 h p.1 p.2)
+  prints-told quiet m n (Show range) bytes h p = told-as m _ bytes p.2 (false, shown-tells range m.fore.entries, λ e. absurd cc)
 
   fore-right : (m n : Machine) (s : Step) (a : Answer) → Right r m → ForeSteps r m s a n → Right r n
   fore-right m n s a h d =
       let P : Machine → Type 0 = λ z. Right r z in
       subst P (sym d.2) (subst (HasRightEntries r) (sym (text-follows r m.fore s a d.0 d.1)) (right-step r (seen m.fore) s a d.0 h d.1))
 
-  acts-right : (m n : Machine) (s : Step) (a : Answer) → Right r m → Acts r m s a n → Right r n
-  acts-right m n (step.Edit c) (Edited version) h d = fore-right m n (step.Edit c) (Edited version) h d
-  acts-right m n step.Line (Lined turn) h d = fore-right m n step.Line (Lined turn) h d
-  acts-right m n step.Settle (Forced done blocked) h d = fore-right m n step.Settle (Forced done blocked) h d
-  acts-right m n _ _ h d = absurd d
-
-  prints-right : (m n : Machine) (s : ScriptStep) (bytes : List ℕ) → Right r m → Prints r m s bytes n → Right r n
-  prints-right m n (Core s) bytes h p = acts-right m n s p.0 h p.1
-  prints-right m n SettleQuietly bytes h p = acts-right m n step.Settle p.0 h p.1
-  prints-right m n Show bytes h p = let P : Machine → Type 0 = λ z. Right r z in subst P (sym p.0) h
+  prints-right : (quiet : Bool) (m n : Machine) (s : ScriptStep) (bytes : List ℕ) → Right r m → Prints quiet r m s bytes n → Right r n
+  prints-right quiet m n (Core s) bytes h p = fore-right m n s p.0 h p.2
+  prints-right quiet m n (Show range) bytes h p = let P : Machine → Type 0 = λ z. Right r z in subst P (sym p.1) h
 
   -- what steps print tells of a blocked line only where a line of a text that stood costs more
-  costly : (m n : Machine) (xs : List Scripted) (bytes : List ℕ) → Right r m → Plays r m xs bytes n → tells_blocked bytes ≡ true → HasCostlyLine r (stands_of (stand_in m) (machine_steps xs))
+  costly : (quiet : Bool) (m n : Machine) (xs : List Scripted) (bytes : List ℕ) → Right r m → Plays quiet r m xs bytes n → tells_blocked bytes ≡ true → HasCostlyLine r (stands_of (stand_in m) (machine_steps xs))
   unfolding tells_from
-  costly m n [] bytes h p e = let none : false ≡ true = ap tells_blocked (sym p.0) ∙ e in absurd cc
-  costly m n (x ∷ xs) bytes h p e =
-      let told = prints-told m p.0 x.step p.1 h p.4 in
+  costly quiet m n [] bytes h p e = let none : false ≡ true = ap tells_blocked (sym p.0) ∙ e in absurd cc
+  costly quiet m n (x ∷ xs) bytes h p e =
+      let told = prints-told quiet m p.0 x.step p.1 h p.4 in
       let whole : (told.0 || tells_blocked p.2) ≡ true = sym (told.1 p.2) ∙ ap tells_blocked (sym p.3) ∙ e in
-      go told.0 told.2 whole (costly p.0 n xs p.2 (prints-right m p.0 x.step p.1 h p.4) p.5)
+      go told.0 told.2 whole (costly quiet p.0 n xs p.2 (prints-right quiet m p.0 x.step p.1 h p.4) p.5)
     where
       go : (seen : Bool) → (seen ≡ true → (i : ℕ) × Costs m i) → (seen || tells_blocked p.2) ≡ true → (tells_blocked p.2 ≡ true → HasCostlyLine r (stands_of (stand_in p.0) (machine_steps xs))) → HasCostlyLine r (stands_of (stand_in m) (machine_steps (x ∷ xs)))
       go true costs is later = let c = costs refl in (stand_in m, c.0, c.1.0, stands-first (stand_in m) (machine_steps (x ∷ xs)), c.1.1, c.1.2)
-      go false costs is later = let c = later is in (c.0, c.1, c.2, step-first r m p.0 c.0 x.step xs p.1 p.4 c.3, c.4, c.5)
+      go false costs is later = let c = later is in (c.0, c.1, c.2, step-first quiet r m p.0 c.0 x.step xs p.1 p.4 c.3, c.4, c.5)
 
   -- from the opening text on
-  pub costly-lines : (lines : List (List ℕ)) (n : Machine) (xs : List Scripted) (bytes : List ℕ) → Plays r (machine_of lines) xs bytes n → tells_blocked bytes ≡ true → HasCostlyLine r (stands_of (stand_in (machine_of lines)) (machine_steps xs))
-  costly-lines lines n xs bytes p e = costly (machine_of lines) n xs bytes (right-new r lines) p e
+  pub costly-lines : (quiet : Bool) (lines : List (List ℕ)) (n : Machine) (xs : List Scripted) (bytes : List ℕ) → Plays quiet r (machine_of lines) xs bytes n → tells_blocked bytes ≡ true → HasCostlyLine r (stands_of (stand_in (machine_of lines)) (machine_steps xs))
+  costly-lines quiet lines n xs bytes p e = costly quiet (machine_of lines) n xs bytes (right-new r lines) p e

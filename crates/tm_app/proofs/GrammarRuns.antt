@@ -1,7 +1,7 @@
 -- A run over a grammar, from a new model on.
 use mathlib.Core.List.{map-id}
 use Rattle.std.proofs.Common.{◌≡◌, ℕ, List, [], ◌∷◌, Bool, Option, sym, ◌∙◌, subst}
-use Rattle.tm_forms.specs.declared.script.Scripted.{Scripted}
+use Rattle.tm_script.specs.declared.steps.Scripted.{Scripted}
 use Rattle.tm_line.specs.Setting.{Setting}
 use Rattle.tm_line.specs.Tokenizing.{rules_tokenized, rules_cost, rules_made}
 use Rattle.tm_machine.specs.Changes.{lines_of}

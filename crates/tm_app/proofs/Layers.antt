@@ -5,7 +5,7 @@ use Rattle.std.proofs.lemmas.List.{get_or-map, length-map}
 use Rattle.std.specs.declared.alloc.Global.{Global}
 use Rattle.tm_forms.specs.Grammar.{grammar_in}
 use Rattle.tm_forms.specs.Settings.{SettingFilesData, SettingsData, settings_in}
-use Rattle.tm_forms.specs.declared.script.Scripted.{Scripted}
+use Rattle.tm_script.specs.declared.steps.Scripted.{Scripted}
 use Rattle.tm_grammar.specs.File.{GrammarTree}
 use Rattle.tm_line.specs.Setting.{Setting}
 use Rattle.tm_rules.specs.Sizes.{rule_limit}

@@ -11,8 +11,8 @@ use Rattle.tm_app.specs.Report.{Keeps}
 use Rattle.tm_app.specs.Told.{where_told}
 use Rattle.tm_defs.specs.declared.changes.Change.{Change}
 use Rattle.tm_defs.specs.declared.events.Step.TheVariants.{Edit}
-use Rattle.tm_forms.specs.declared.script.ScriptStep.TheVariants.{Core}
-use Rattle.tm_forms.specs.declared.script.Scripted.{Scripted}
+use Rattle.tm_script.specs.declared.steps.ScriptStep.TheVariants.{Core}
+use Rattle.tm_script.specs.declared.steps.Scripted.{Scripted}
 use Rattle.tm_forms.specs.Script.{scan_steps}
 use Rattle.tm_app.specs.Command.{Names, Run, IsCommand}
 use Rattle.tm_app.specs.Lint.{lint_text}

@@ -1,16 +1,15 @@
--- The steps that scripts of the form that is built have.
-use Rattle.std.proofs.Common.{◌≡◌, ℕ, ◌<◌, List, Bool, true, false, length, get_or, refl}
-use Rattle.std.specs.List.{list_all}
-use Rattle.std.proofs.lemmas.List.Folds.{list_all_at}
-use Rattle.tm_forms.specs.declared.script.Scripted.{Scripted}
-use Rattle.tm_forms.specs.Script.{is_built}
+-- The steps that scripts have which are read.
+use Rattle.std.proofs.Common.{◌≡◌, ℕ, zero, suc, ◌<◌, List, [], ◌∷◌, Bool, true, false, length, get_or, refl, arith}
+use Rattle.std.specs.Prelude.{◌||◌}
+use Rattle.std.specs.List.{list_any}
+use Rattle.tm_script.specs.declared.steps.Scripted.{Scripted}
+use Rattle.tm_script.specs.Script.{is_to_come}
 
-pub built-at : (xs : List Scripted) (i : ℕ) (d : Scripted) → i < length xs → list_all is_built xs ≡ true → is_built (get_or xs i d) ≡ true
-built-at xs i d lt h = go (is_built (get_or xs i d)) refl
-  where
-    apart : list_all is_built xs ≡ false → ⊥
-    apart none = cc
+neither : (a b : Bool) → (a || b) ≡ false → (a ≡ false) × (b ≡ false)
+neither false b e = (refl, e)
+neither true b e = absurd cc
 
-    go : (b : Bool) → is_built (get_or xs i d) ≡ b → b ≡ true
-    go true e = refl
-    go false e = absurd (apart (list_all_at is_built xs i d lt e))
+pub built-at : (xs : List Scripted) (i : ℕ) (d : Scripted) → i < length xs → list_any is_to_come xs ≡ false → is_to_come (get_or xs i d) ≡ false
+built-at [] i d lt h = absurd (omega (arith, lt))
+built-at (x ∷ xs) zero d lt h = (neither (is_to_come x) (list_any is_to_come xs) h).0
+built-at (x ∷ xs) (suc i) d lt h = built-at xs i d (omega (arith, lt)) (neither (is_to_come x) (list_any is_to_come xs) h).1

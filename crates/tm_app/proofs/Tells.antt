@@ -11,7 +11,7 @@ use Rattle.tm_defs.specs.declared.tokens.Token.{Token}
 use Rattle.tm_machine.specs.declared.entries.Entry.{Entry}
 use Rattle.tm_machine.specs.Entries.{is_accurate}
 use Rattle.tm_app.specs.Hex.{eight_digits}
-use Rattle.tm_app.specs.Printed.{tells_from, tells_blocked, tells_of, bang_text, turn_text, work_text, blocked_text, token_text, tokens_text, line_text, shown_from, shown}
+use Rattle.tm_app.specs.Printed.{tells_from, tells_blocked, tells_of, bang_text, turn_text, work_text, blocked_text, forced_text, token_text, tokens_text, line_text, shown_from, shown}
 use Rattle.tm_app.specs.inner.Stands.{Tells}
 
 -- no line feed
@@ -106,12 +106,16 @@ tells-whole a s h = ap tells_blocked (sym (append-nil a)) ∙ h [] ∙ or-false 
 bang-tells : (i : ℕ) → Tells (bang_text i) true
 bang-tells i = one-line 33 (32 ∷ decimal i) (bang_text i) (refl, (refl, no-feed-decimal i)) refl
 
-pub work-tells : (done : ℕ) → Tells (work_text done) false
+work-tells : (done : ℕ) → Tells (work_text done) false
 work-tells done = one-line 119 (codes "ork " ++ decimal done) (work_text done) (refl, (refl, (refl, (refl, (refl, no-feed-decimal done))))) refl
 
-pub blocked-tells : (blocked : Option ℕ) → Tells (blocked_text blocked) (is_some blocked)
+blocked-tells : (blocked : Option ℕ) → Tells (blocked_text blocked) (is_some blocked)
 blocked-tells None = nothing-tells
 blocked-tells (Some i) = bang-tells i
+
+pub forced-tells : (quiet : Bool) (done : ℕ) (blocked : Option ℕ) → Tells (forced_text quiet done blocked) (is_some blocked)
+forced-tells true done blocked = blocked-tells blocked
+forced-tells false done blocked = both-tell (work_text done) (blocked_text blocked) false (is_some blocked) (work-tells done) (blocked-tells blocked)
 
 pub turn-tells : (turn : Turn) → Tells (turn_text turn) (tells_of turn)
 turn-tells (Done i) = one-line 108 (codes "ine " ++ decimal i) (turn_text (Done i)) (refl, (refl, (refl, (refl, (refl, no-feed-decimal i))))) refl
@@ -131,5 +135,6 @@ shown-from-tells all i [] = nothing-tells
 shown-from-tells all i (e ∷ es) =
     both-tell (line_text (is_accurate all i) i e.tokens) (shown_from all (i + 1) es) false false (shown-line-tells (is_accurate all i) i e.tokens) (shown-from-tells all (i + 1) es)
 
-pub shown-tells : (es : List (Entry (List FrameData))) → Tells (shown es) false
-shown-tells es = shown-from-tells es 0 es
+pub shown-tells : (range : Option (ℕ × ℕ)) (es : List (Entry (List FrameData))) → Tells (shown range es) false
+shown-tells None es = shown-from-tells es 0 es
+shown-tells (Some range) es = shown-from-tells es range.0 _

@@ -1,5 +1,6 @@
 pub mod Command
 pub mod Complete
+pub mod Files
 pub mod Hex
 pub mod Lint
 pub mod Outcome

@@ -1,18 +1,17 @@
 -- How a run ends: each status with its cause, and with what was written by then.
 use Rattle.std.specs.Prelude.{◌≡◌, ◌⊎◌, ℕ, List, [], Option, Some, Bool, true, false, chars}
-use Rattle.tm_forms.specs.declared.script.Scripted.{Scripted}
+use Rattle.tm_script.specs.declared.steps.Scripted.{Scripted}
 use Rattle.tm_line.specs.Setting.{Setting}
 use Rattle.tm_line.specs.Tokenizing.{rules_tokenized, rules_cost, rules_made}
-use Rattle.tm_machine.specs.Changes.{lines_of}
 use Rattle.tm_machine.specs.Documents.{Rules}
 use Rattle.tm_machine.specs.Machine.{Machine, machine_of}
 use Rattle.tm_machine.specs.Reach.{stand_in, stands_of}
 use Rattle.tm_machine.specs.Settings.{rules_of}
 use Rattle.tm_outside.specs.Causes.{Takes, TakesFront}
-use Rattle.tm_app.specs.inner.Setup.{SetupData, Work, Linted, Played}
+use Rattle.tm_app.specs.inner.Setup.{SetupData, Work, Linted, Played, is_quiet, steps_played}
 use Rattle.tm_app.specs.declared.play.Fault.{Fault}
 use Rattle.tm_app.specs.declared.play.Fault.TheVariants as fault
-use Rattle.tm_app.specs.declared.status.What.TheVariants.{BadPlace}
+use Rattle.tm_app.specs.declared.status.What.TheVariants.{BadPlace, TextFull}
 use Rattle.tm_app.specs.declared.status.Status.{Status}
 use Rattle.tm_app.specs.declared.status.Status.TheVariants.{Ok, Usage, FileFault, Refused, SinkFault, OutOfMemory, BudgetSeen, TableFull}
 use Rattle.tm_app.specs.Command.{Command, Lint, Run, IsCommand}
@@ -23,37 +22,26 @@ use Rattle.tm_app.specs.Reading.{IsLoaded, IsLoadStop}
 use Rattle.tm_app.specs.Stops.{IsWriteStop, PlayStops, HasCostlyLine}
 use Rattle.tm_app.specs.Told.{where_told}
 
--- a bad place is told of the script; for want of memory it is told as that
-abbrev pub IsBadPlace : (script : List ℕ) → (line : ℕ) → Status → Type 0
-IsBadPlace script line (Refused name what) = (name ≡ chars script) × (what ≡ BadPlace line)
-IsBadPlace script line OutOfMemory = Unit {0}
-IsBadPlace script line Ok = ⊥
-IsBadPlace script line Usage = ⊥
-IsBadPlace script line (FileFault name) = ⊥
-IsBadPlace script line SinkFault = ⊥
-IsBadPlace script line BudgetSeen = ⊥
-IsBadPlace script line TableFull = ⊥
-
 -- grammars make tokens of lines by the line relation
 abbrev pub grammar_rules : List Setting → (budget : ℕ) → Rules
 grammar_rules settings budget = rules_of rules_tokenized rules_cost rules_made settings budget
 
 -- from these lines all steps are done, what they print is written, and it tells of a blocked line or not: only
 -- where a line of a text that stood costs more than the budget
-abbrev pub LinesPlay : List Setting → (budget : ℕ) → List (List ℕ) → List Scripted → Option (List ℕ) → Option (List ℕ) → (seen : Bool) → Type 0
-LinesPlay settings budget lines steps taken taken_now seen =
-    (bytes : List ℕ) × (last : Machine) × Plays (grammar_rules settings budget) (machine_of lines) steps bytes last × Takes taken taken_now bytes × (tells_blocked bytes ≡ seen)
+abbrev pub LinesPlay : List Setting → (budget : ℕ) → (quiet : Bool) → List (List ℕ) → List Scripted → Option (List ℕ) → Option (List ℕ) → (seen : Bool) → Type 0
+LinesPlay settings budget quiet lines steps taken taken_now seen =
+    (bytes : List ℕ) × (last : Machine) × Plays quiet (grammar_rules settings budget) (machine_of lines) steps bytes last × Takes taken taken_now bytes × (tells_blocked bytes ≡ seen)
     × (seen ≡ true → HasCostlyLine (grammar_rules settings budget) (stands_of (stand_in (machine_of lines)) (machine_steps steps)))
 
-abbrev pub LinesStop : List Setting → (budget : ℕ) → List (List ℕ) → List Scripted → Option (List ℕ) → Option (List ℕ) → (faults faults_now : ℕ) → Fault → Type 0
-LinesStop settings budget lines = PlayStops (grammar_rules settings budget) (machine_of lines)
+abbrev pub LinesStop : List Setting → (budget : ℕ) → (quiet : Bool) → List (List ℕ) → List Scripted → Option (List ℕ) → Option (List ℕ) → (faults faults_now : ℕ) → Fault → Type 0
+LinesStop settings budget quiet lines = PlayStops quiet (grammar_rules settings budget) (machine_of lines)
 
 -- the run begins with the lines of the text file, and by setting 0
 abbrev pub SetupPlays : SetupData → Option (List ℕ) → Option (List ℕ) → (seen : Bool) → Type 0
-SetupPlays setup = LinesPlay setup.settings setup.budget (lines_of setup.text) setup.script
+SetupPlays setup = LinesPlay setup.settings setup.budget (is_quiet setup.script) setup.lines (steps_played setup.script)
 
 abbrev pub SetupStops : SetupData → Option (List ℕ) → Option (List ℕ) → (faults faults_now : ℕ) → Fault → Type 0
-SetupStops setup = LinesStop setup.settings setup.budget (lines_of setup.text) setup.script
+SetupStops setup = LinesStop setup.settings setup.budget (is_quiet setup.script) setup.lines (steps_played setup.script)
 
 -- a command does all of its work. A list of patterns tells of no blocked line, whatever is in its paths
 abbrev pub WorkDone : Work → Option (List ℕ) → Option (List ℕ) → (seen : Bool) → Type 0
@@ -76,7 +64,7 @@ module _ (words : List (List ℕ)) (tells : List ℕ → Option (List ℕ)) (fai
   abbrev pub any_command : Command → Type 0
   any_command command = Unit {0}
 
-  -- a bad place is told of the script
+  -- a refused step is told of the script
   abbrev pub IsScript : List ℕ → Command → Type 0
   IsScript name (Lint settings) = ⊥
   IsScript name (Run names) = (script : List ℕ) × (names.script ≡ Some script) × (name ≡ chars script)
@@ -91,6 +79,7 @@ module _ (words : List (List ℕ)) (tells : List ℕ → Option (List ℕ)) (fai
   Outcome Usage = ((command : Command) → ¬ (IsCommand words command)) × Takes taken taken_now []
   Outcome (FileFault name) = StopsLoad (FileFault name)
   Outcome (Refused name (BadPlace line)) = StopsWork (IsScript name) (fault.BadPlace line)
+  Outcome (Refused name (TextFull (Some line))) = StopsWork (IsScript name) (fault.TextFull line)
   Outcome (Refused name what) = StopsLoad (Refused name what)
   Outcome SinkFault = StopsWork any_command fault.SinkFault
   Outcome OutOfMemory = Takes taken taken_now [] ⊎ StopsWork any_command fault.OutOfMemory

@@ -1,12 +1,12 @@
 -- What is printed of the machine's answers and of what it keeps of lines.
-use Rattle.std.specs.Prelude.{ℕ, ◌+◌, ◌==◌, ◌&&◌, ◌||◌, List, [], ◌∷◌, ◌++◌, codes, decimal, Bool, true, false, nat_lt, Option, Some, None, if◌then◌else◌}
+use Rattle.std.specs.Prelude.{ℕ, ◌+◌, ◌==◌, ◌&&◌, ◌||◌, List, [], ◌-◌, ◌∷◌, ◌++◌, codes, decimal, drop, take, Bool, true, false, nat_lt, Option, Some, None, if◌then◌else◌}
 use Rattle.tm_defs.specs.declared.events.Turn.{Turn}
 use Rattle.tm_defs.specs.declared.events.Turn.TheVariants.{Done, Idle, Blocked}
 use Rattle.tm_defs.specs.declared.frames.FrameData.{FrameData}
 use Rattle.tm_defs.specs.declared.tokens.Token.{Token}
 use Rattle.tm_machine.specs.declared.entries.Entry.{Entry}
 use Rattle.tm_machine.specs.Entries.{is_accurate}
-use Rattle.tm_machine.specs.Documents.{Answer, Edited, Lined, Forced}
+use Rattle.tm_machine.specs.Documents.{Answer, Edited, Set, Lined, Forced}
 use Rattle.tm_app.specs.Hex.{eight_digits}
 
 -- a line that costs more than the budget
@@ -34,17 +34,18 @@ tells_of (Done i) = false
 tells_of Idle = false
 tells_of (Blocked i) = true
 
--- what a step prints of its answer; an edit prints nothing
-abbrev pub answer_text : Answer → List ℕ
-answer_text (Edited version) = []
-answer_text (Lined turn) = turn_text turn
-answer_text (Forced done blocked) = work_text done ++ blocked_text blocked
-answer_text _ = []
+-- what a run of lines did; where it is to be quiet, only a blocked line is told
+abbrev pub forced_text : (quiet : Bool) → (done : ℕ) → (blocked : Option ℕ) → List ℕ
+forced_text true done blocked = blocked_text blocked
+forced_text false done blocked = work_text done ++ blocked_text blocked
 
--- the same where only a blocked line is told
-abbrev pub quiet_text : Answer → List ℕ
-quiet_text (Forced done blocked) = blocked_text blocked
-quiet_text _ = []
+-- what a step of the foreground prints of its answer; an edit and a setting print nothing
+abbrev pub answer_text : (quiet : Bool) → Answer → List ℕ
+answer_text quiet (Edited version) = []
+answer_text quiet Set = []
+answer_text quiet (Lined turn) = turn_text turn
+answer_text quiet (Forced done blocked) = forced_text quiet done blocked
+answer_text quiet _ = []
 
 -- whether a line begins with `!`; the flag says that a line begins here
 unfoldable pub tells_from : Bool → List ℕ → Bool
@@ -79,5 +80,7 @@ abbrev pub shown_from : List (Entry (List FrameData)) → ℕ → List (Entry (L
 shown_from all i [] = []
 shown_from all i (e ∷ es) = line_text (is_accurate all i) i e.tokens ++ shown_from all (i + 1) es
 
-abbrev pub shown : List (Entry (List FrameData)) → List ℕ
-shown es = shown_from es 0 es
+-- all lines, or those from the first to the second one, both included
+abbrev pub shown : Option (ℕ × ℕ) → List (Entry (List FrameData)) → List ℕ
+shown None es = shown_from es 0 es
+shown (Some range) es = shown_from es range.0 (take (range.1 + 1 - range.0) (drop range.0 es))

@@ -1,27 +1,18 @@
 -- The files of a command, in the order in which they are read.
-use Rattle.std.specs.Prelude.{◌≡◌, ℕ, List, Option, Some, None, Result, Ok, Err, ⊤, chars, ok_or}
+use Rattle.std.specs.Prelude.{◌≡◌, ℕ, List, Option, Some, None, Ok, ⊤, chars}
 use Rattle.tm_forms.specs.Settings.{SettingsData, settings_in}
 use Rattle.tm_forms.specs.Grammar.{grammar_in}
-use Rattle.tm_forms.specs.declared.form.Refusal.{Refusal}
-use Rattle.tm_forms.specs.declared.form.Refusal.TheVariants as refusal
-use Rattle.tm_forms.specs.declared.script.Scripted.{Scripted}
-use Rattle.tm_forms.specs.Script.{script_in, scan_steps}
-use Rattle.tm_forms.specs.Text.{text_in}
 use Rattle.tm_line.specs.Setting.{Setting}
+use Rattle.tm_script.specs.declared.steps.Scripted.{Scripted}
 use Rattle.tm_app.specs.Command.{Names, Command, Lint, Run, settings_named}
+use Rattle.tm_app.specs.Files.{IsTextFile, RefusesText, script_form, RefusesScript}
 use Rattle.tm_app.specs.inner.Given.{AreLoaded, IsGrammarReached, IsTooMany}
 use Rattle.tm_app.specs.inner.Setup.{SetupData, Work, Linted, Played}
+use Rattle.tm_app.specs.declared.status.What.{What}
 use Rattle.tm_app.specs.declared.status.What.TheVariants.{TooManyRules}
 use Rattle.tm_app.specs.declared.status.Status.{Status}
 use Rattle.tm_app.specs.declared.status.Status.TheVariants as status
-use Rattle.tm_app.specs.Told.{Told, where_told, HasAdded, IsRefusedAs, IsFileStop}
-
--- texts and scripts are refused only where their form is still to come
-abbrev pub text_form : List ℕ → Result (List ℕ) Refusal
-text_form bytes = ok_or (text_in bytes) refusal.NotYet
-
-abbrev pub script_form : List ℕ → Result (List Scripted) Refusal
-script_form bytes = ok_or (script_in bytes) refusal.NotYet
+use Rattle.tm_app.specs.Told.{Told, where_told, HasAdded, IsFormRefusal, IsFileStop}
 
 -- the files of a command, in reading order
 pub data Part : Type 0 where
@@ -31,22 +22,24 @@ pub data Part : Type 0 where
   the_script : Part
 
 -- the bytes of a file are refused for this
-abbrev pub Refuses : Part → List ℕ → Refusal → Type 0
-Refuses the_settings bytes cause = settings_in bytes ≡ Err cause
-Refuses the_grammar bytes cause = grammar_in bytes ≡ Err cause
-Refuses the_text bytes cause = text_form bytes ≡ Err cause
-Refuses the_script bytes cause = script_form bytes ≡ Err cause
+abbrev pub Refuses : Part → List ℕ → What → Type 0
+Refuses the_settings bytes what = IsFormRefusal settings_in what bytes
+Refuses the_grammar bytes what = IsFormRefusal grammar_in what bytes
+Refuses the_text bytes what = RefusesText bytes what
+Refuses the_script bytes what = RefusesScript bytes what
 
 module _ (holds : List ℕ → (List ℕ → Type 0) → Type 0) where
-  -- the steps are those of the script, or of a scan
-  abbrev pub GivesScript : Option (List ℕ) → List Scripted → Type 0
-  GivesScript None steps = steps ≡ scan_steps
-  GivesScript (Some file) steps = holds file (λ bytes. script_form bytes ≡ Ok steps)
+  -- the script is read, where there is one
+  abbrev pub GivesScript : Option (List ℕ) → Option (List Scripted) → Type 0
+  GivesScript None None = ⊤
+  GivesScript (Some file) (Some steps) = holds file (λ bytes. script_form bytes ≡ Ok steps)
+  GivesScript None (Some steps) = ⊥
+  GivesScript (Some file) None = ⊥
 
   -- all files of a run over a text are read
   pub record IsSetupLoaded (names : Names) (setup : SetupData) : Type 0 where
     pub settings : AreLoaded holds names.settings setup.budget setup.settings
-    pub text : holds names.text (λ bytes. text_form bytes ≡ Ok setup.text)
+    pub text : holds names.text (λ bytes. IsTextFile bytes setup.lines)
     pub script : GivesScript names.script setup.script
 
   -- all files of a command are read
@@ -71,7 +64,7 @@ module _ (tells : List ℕ → Option (List ℕ)) (reached : Part → List ℕ �
   abbrev pub IsReadStop : Status → Type 0
   IsReadStop (status.FileFault name) = (part : Part) × (file : List ℕ) × (name ≡ chars file) × reached part file × HasAdded old new file
   IsReadStop (status.Refused name TooManyRules) = (file : List ℕ) × (name ≡ chars file) × many file
-  IsReadStop (status.Refused name what) = (part : Part) × (file : List ℕ) × (name ≡ chars file) × reached part file × IsRefusedAs (λ cause. Told (tells file) (λ bytes. Refuses part bytes cause)) what
+  IsReadStop (status.Refused name what) = (part : Part) × (file : List ℕ) × (name ≡ chars file) × reached part file × Told (tells file) (λ bytes. Refuses part bytes what)
   IsReadStop status.OutOfMemory = ⊤
   IsReadStop status.Ok = ⊥
   IsReadStop status.Usage = ⊥
@@ -82,7 +75,7 @@ module _ (tells : List ℕ → Option (List ℕ)) (reached : Part → List ℕ �
 -- why the reading of a script may stop a run; a scan reads none
 abbrev pub IsScriptStop : (tells : List ℕ → Option (List ℕ)) → List (List ℕ) → List (List ℕ) → Option (List ℕ) → Status → Type 0
 IsScriptStop tells old new None ended = ended ≡ status.OutOfMemory
-IsScriptStop tells old new (Some file) ended = IsFileStop (λ cause. Told (tells file) (λ bytes. script_form bytes ≡ Err cause)) old new file ended
+IsScriptStop tells old new (Some file) ended = IsFileStop (λ what. Told (tells file) (λ bytes. RefusesScript bytes what)) old new file ended
 
 module _ (command : Command) (tells : List ℕ → Option (List ℕ)) where
   -- what the settings file says, where it tells its bytes
@@ -100,7 +93,7 @@ module _ (command : Command) (tells : List ℕ → Option (List ℕ)) where
 
   abbrev pub IsScriptReached : Command → List ℕ → Type 0
   IsScriptReached (Lint settings) file = ⊥
-  IsScriptReached (Run names) file = (Some file ≡ names.script) × HasSettings × ((text : List ℕ) × Told (tells names.text) (λ bytes. text_form bytes ≡ Ok text))
+  IsScriptReached (Run names) file = (Some file ≡ names.script) × HasSettings × ((lines : List (List ℕ)) × Told (tells names.text) (λ bytes. IsTextFile bytes lines))
 
   -- the reading comes to this file: each file before it is of its form, and no setting before it has too many rules, so
   -- that no refusal is decided earlier

@@ -1,7 +1,7 @@
 -- What is printed of how a run ended.
-use Rattle.std.specs.Prelude.{ℕ, List, [], ◌∷◌, ◌++◌, codes, decimal, encode_utf8_all}
+use Rattle.std.specs.Prelude.{ℕ, List, [], ◌∷◌, ◌++◌, codes, decimal, encode_utf8_all, Option, Some, None}
 use Rattle.tm_app.specs.declared.status.What.{What}
-use Rattle.tm_app.specs.declared.status.What.TheVariants.{NotJson, BadShape, NotYet, TooManyRules, BadPlace}
+use Rattle.tm_app.specs.declared.status.What.TheVariants.{NotJson, BadShape, NotYet, TooManyRules, NotUtf8, TextFull, BadStep, TooManySteps, BadPlace}
 use Rattle.tm_app.specs.declared.status.Status.{Status}
 use Rattle.tm_app.specs.declared.status.Status.TheVariants as status
 
@@ -19,6 +19,11 @@ what_text NotJson = codes "NotJson\n"
 what_text (BadShape path) = codes "BadShape " ++ path_text path ++ codes "\n"
 what_text NotYet = codes "NotYet\n"
 what_text TooManyRules = codes "TooManyRules\n"
+what_text (NotUtf8 offset) = codes "NotUtf8 " ++ decimal offset ++ codes "\n"
+what_text (TextFull None) = codes "TextFull\n"
+what_text (TextFull (Some line)) = codes "TextFull " ++ decimal line ++ codes "\n"
+what_text (BadStep line) = codes "BadStep " ++ decimal line ++ codes "\n"
+what_text TooManySteps = codes "TooManySteps\n"
 what_text (BadPlace line) = codes "BadPlace " ++ decimal line ++ codes "\n"
 
 abbrev pub status_text : Status → List ℕ

@@ -1,5 +1,5 @@
 -- What the reading of one file may answer.
-use Rattle.std.specs.Prelude.{◌≡◌, ℕ, List, [], ◌∷◌, ◌++◌, Option, ⊤, MatchOption, chars}
+use Rattle.std.specs.Prelude.{◌≡◌, ℕ, List, [], ◌∷◌, ◌++◌, Option, Result, Err, ⊤, MatchOption, chars}
 use Rattle.tm_forms.specs.declared.form.Refusal.{Refusal}
 use Rattle.tm_forms.specs.declared.form.Refusal.TheVariants as refusal
 use Rattle.tm_app.specs.declared.status.What.{What}
@@ -36,14 +36,25 @@ what_of refusal.NotJson = NotJson
 what_of (refusal.BadShape path) = BadShape path
 what_of refusal.NotYet = NotYet
 
--- the file is refused so
-abbrev pub IsRefusedAs : (Refusal → Type 0) → What → Type 0
-IsRefusedAs refuses what = (cause : Refusal) × (what ≡ what_of cause) × refuses cause
+-- the bytes of a file of this form are refused so
+abbrev pub IsFormRefusal : {X : Type 0} → (List ℕ → Result X Refusal) → What → List ℕ → Type 0
+IsFormRefusal form what bytes = (cause : Refusal) × (what ≡ what_of cause) × (form bytes ≡ Err cause)
+
+-- it is told that a file is refused so, or, for want of memory, that
+abbrev pub IsRefusalOf : (file : List ℕ) → What → Status → Type 0
+IsRefusalOf file what (Refused name other) = (name ≡ chars file) × (other ≡ what)
+IsRefusalOf file what OutOfMemory = ⊤
+IsRefusalOf file what Ok = ⊥
+IsRefusalOf file what Usage = ⊥
+IsRefusalOf file what (FileFault name) = ⊥
+IsRefusalOf file what SinkFault = ⊥
+IsRefusalOf file what BudgetSeen = ⊥
+IsRefusalOf file what TableFull = ⊥
 
 -- why the reading of one file may stop a run: its read failed, or its bytes are refused
-abbrev pub IsFileStop : (Refusal → Type 0) → List (List ℕ) → List (List ℕ) → List ℕ → Status → Type 0
+abbrev pub IsFileStop : (What → Type 0) → List (List ℕ) → List (List ℕ) → List ℕ → Status → Type 0
 IsFileStop refuses old new file (FileFault name) = (name ≡ chars file) × (new ≡ old ++ file ∷ [])
-IsFileStop refuses old new file (Refused name what) = (name ≡ chars file) × IsRefusedAs refuses what
+IsFileStop refuses old new file (Refused name what) = (name ≡ chars file) × refuses what
 IsFileStop refuses old new file OutOfMemory = ⊤
 IsFileStop refuses old new file Ok = ⊥
 IsFileStop refuses old new file Usage = ⊥

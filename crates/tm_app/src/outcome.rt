@@ -1,12 +1,11 @@
 //! The top call.
-ghost use Rattle.std.specs.Prelude.{◌≡◌, ◌≢◌, ◌≤◌, ◌<◌, map, length, option_map, string_bytes, IfOk, IfErr, IsTrue};
-ghost use Rattle.std.specs.List.{list_all};
+ghost use Rattle.std.specs.Prelude.{◌≡◌, ◌≢◌, ◌≤◌, ◌<◌, map, length, option_map, string_bytes, IfOk, IfErr};
 ghost use Rattle.tm_app.specs.Command.{lint_words, run_words};
 ghost use Rattle.tm_app.specs.Complete.{IsGood, Completes};
-ghost use Rattle.tm_app.specs.Outcome.{Outcome, SetupPlays, SetupStops, LinesPlay, LinesStop, IsBadPlace};
-ghost use Rattle.tm_app.specs.inner.Setup.{Work, setup_data};
+ghost use Rattle.tm_app.specs.Outcome.{Outcome, SetupPlays, SetupStops, LinesPlay, LinesStop};
+ghost use Rattle.tm_app.specs.Play.{scan_steps};
+ghost use Rattle.tm_app.specs.inner.Setup.{Work, setup_data, is_quiet, steps_played};
 ghost use Rattle.tm_app.specs.Status.{status_text};
-ghost use Rattle.tm_forms.specs.Script.{is_built};
 ghost use Rattle.tm_outside.specs.Causes.{Takes, Rose};
 
 use crate::play::Fault;
@@ -16,41 +15,66 @@ use crate::{command, lint, play, report, setup, status};
 use std::alloc::Global;
 use std::marker::Brand;
 use std::sync::ledger::{Blank, Ledger};
+use tm_defs::events::Step;
+use tm_defs::memory::OutOfMemory;
 use tm_defs::steps::Steps;
-use tm_forms::script::Scripted;
 use tm_line::tokenizer::Setting;
 use tm_model::model::Model;
 use tm_outside::files::Files;
 use tm_outside::sink::Sink;
-use tm_text::faults::TextFault;
-use tm_text::text::{Text, from_characters};
+use tm_script::script::Script;
+use tm_script::steps::{ScriptStep, Scripted};
+use tm_text::text::Text;
 
 /// Entries of one kind that a table of states holds at most.
 const TABLE_LIMIT: u32 = 16_777_216;
 
-/// Plays a script over a text, with a counter of the lines done, and answers whether what it prints
-/// tells of a blocked line.
+/// What a scan does: it settles and shows all lines.
+fn scan_steps(alloc: Global) -> Result<Vec<Scripted>, OutOfMemory>
+    ensures { IfOk result (λ steps. steps.items ≡ scan_steps) }
+{
+    let mut steps = Vec::new(alloc);
+    steps.push(Scripted {
+        line: 0,
+        step: ScriptStep::Core(Step::Settle),
+    })?;
+    steps.push(Scripted {
+        line: 1,
+        step: ScriptStep::Show(None),
+    })?;
+    Ok(steps)
+}
+
+/// Plays a script over a text, or scans it where there is none, with a counter of the lines done, and answers whether
+/// what it prints tells of a blocked line.
 fn counted<S: Sink, L: Ledger>(
     alloc: Global,
     blank: Blank,
     settings: &[Setting],
     budget: u64,
     text: Text,
-    script: &[Scripted],
+    script: &Option<Script>,
     out: &mut S,
 ) -> Result<bool, Fault>
     requires name { blank.name ≡ L.name }
     requires parts { blank.parts ≡ L.parts }
     requires some { 0 < blank.parts }
     requires settings { 0 < length settings.now }
-    requires built { IsTrue (list_all is_built script.now) }
-    ensures ok { IfOk result (LinesPlay settings.now budget text.lines script.now (S.taken out.old) (S.taken out.new)) }
-    ensures err { IfErr result (LinesStop settings.now budget text.lines script.now (S.taken out.old) (S.taken out.new) (S.faults out.old) (S.faults out.new)) }
+    ensures ok { IfOk result (LinesPlay settings.now budget (is_quiet script.now) text.lines (steps_played script.now) (S.taken out.old) (S.taken out.new)) }
+    ensures err { IfErr result (LinesStop settings.now budget (is_quiet script.now) text.lines (steps_played script.now) (S.taken out.old) (S.taken out.new) (S.faults out.old) (S.faults out.new)) }
 {
     let mut steps = Steps::<L>::new(blank);
-    match Model::new(alloc, settings, budget, TABLE_LIMIT, text) {
-        Ok(mut model) => play::play(alloc, &mut model, script, out, &mut steps),
-        Err(_) => Err(Fault::OutOfMemory),
+    let mut model = match Model::new(alloc, settings, budget, TABLE_LIMIT, text) {
+        Ok(model) => model,
+        Err(_) => return Err(Fault::OutOfMemory),
+    };
+    let count = settings.len();
+    match script {
+        Some(script) => play::play(alloc, false, &mut model, count, script.steps(), out, &mut steps),
+        None => match scan_steps(alloc) {
+            Ok(scan) => play::play(alloc, true, &mut model, count, scan.as_slice(), out, &mut steps),
+            Err(_) => Err(Fault::OutOfMemory),
+        },
     }
 }
 
@@ -66,31 +90,15 @@ fn play_setup<S: Sink>(alloc: Global, setup: Setup, out: &mut S) -> Result<bool,
         text,
         script,
     } = setup;
-    let text = match from_characters(alloc, text.as_slice()) {
-        Ok(text) => text,
-        Err(TextFault::OutOfMemory) => return Err(Fault::OutOfMemory),
-        Err(TextFault::NotUtf8(_)) => unreachable!(),
-        Err(TextFault::TextFull(_)) => unreachable!(),
-    };
     counted::<S, Brand>(
         alloc,
         Blank::new(1),
         settings.as_slice(),
         budget,
         text,
-        script.as_slice(),
+        &script,
         out,
     )
-}
-
-/// The status of a bad place.
-fn bad_place(alloc: Global, script: &str, line: u32) -> Status
-    ensures { IsBadPlace script.now line result }
-{
-    match status::name_of(alloc, script) {
-        Ok(name) => Status::Refused(name, What::BadPlace(line)),
-        Err(_) => Status::OutOfMemory,
-    }
 }
 
 /// Lists the unreadable patterns of the settings in a file.
@@ -104,6 +112,7 @@ fn lint_file<F: Files, S: Sink>(alloc: Global, settings: &str, files: &mut F, ou
             Err(Fault::OutOfMemory) => Status::OutOfMemory,
             Err(Fault::TableFull) => unreachable!(),
             Err(Fault::BadPlace(_)) => unreachable!(),
+            Err(Fault::TextFull(_)) => unreachable!(),
         },
         Err(status) => status,
     }
@@ -128,7 +137,11 @@ fn run_files<F: Files, S: Sink>(
             Err(Fault::OutOfMemory) => Status::OutOfMemory,
             Err(Fault::TableFull) => Status::TableFull,
             Err(Fault::BadPlace(line)) => match script {
-                Some(script) => bad_place(alloc, script, line),
+                Some(script) => status::refusal(alloc, script, What::BadPlace(line)),
+                None => unreachable!(),
+            },
+            Err(Fault::TextFull(line)) => match script {
+                Some(script) => status::refusal(alloc, script, What::TextFull(Some(line))),
                 None => unreachable!(),
             },
         },
@@ -162,7 +175,8 @@ fn decide<F: Files, S: Sink>(
 /// by setting 0. Each line is handed to `out` in one piece, in a loop until it is taken. `Usage` comes
 /// exactly where the words are no command; `FileFault` only where this call added the name of a file of the
 /// reading order to those that failed; `Refused` exactly for a file that is refused, a setting of more than
-/// 65,535 rules, or an edit whose place is not in the text; `SinkFault` only where the faults of `out` rose;
+/// 65,535 rules, or a step that is refused: its place, line or setting is not there, or the text behind it would have
+/// more than 16,777,216 characters; `SinkFault` only where the faults of `out` rose;
 /// `BudgetSeen` exactly where all steps are done and a line that begins with `!` was written. `OutOfMemory` may
 /// come at any time; no cause is promised. Of files that tell no bytes all of this holds for some bytes of theirs,
 /// which have the form that was read: a name is pinned to the reading order where the files before it tell bytes.

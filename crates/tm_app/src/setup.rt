@@ -10,22 +10,22 @@ ghost use Rattle.tm_rules.specs.Sizes.{rule_limit};
 use crate::status::{Status, What};
 use crate::{reading, status};
 use std::alloc::Global;
-use tm_forms::script::Script;
 use tm_forms::settings::{SettingFiles, Settings};
-use tm_forms::text::TextFile;
 use tm_grammar::grammar::RawGrammar;
 use tm_line::tokenizer::{Parts, Setting};
 use tm_outside::files::Files;
 use tm_rules::grammars::{Grammars, RulesFault};
+use tm_script::script::Script;
+use tm_text::text::Text;
 
 /// What a run over a text stands on: the budget of a line in steps of plain search, the settings, the
-/// text, and the steps of the script or of a scan.
+/// text, and the script; a scan has none.
 #[derive(Drop)]
 pub struct Setup {
     pub budget: u64,
     pub settings: Vec<Setting>,
-    pub text: TextFile,
-    pub script: Script,
+    pub text: Text,
+    pub script: Option<Script>,
 }
 
 /// The settings of a settings file, and the budget of a line in steps of plain search.
@@ -78,10 +78,7 @@ fn built(
     };
     match Setting::build(alloc, Parts { grammars }) {
         Ok(setting) => Ok(setting),
-        Err(RulesFault::TooManyRules) => match status::name_of(alloc, name) {
-            Ok(name) => Err(Status::Refused(name, What::TooManyRules)),
-            Err(_) => Err(Status::OutOfMemory),
-        },
+        Err(RulesFault::TooManyRules) => Err(status::refusal(alloc, name, What::TooManyRules)),
         Err(RulesFault::OutOfMemory) => Err(Status::OutOfMemory),
     }
 }
@@ -153,21 +150,21 @@ pub fn load_settings<F: Files>(alloc: Global, files: &mut F, name: &str) -> Resu
     }
 }
 
-/// The steps of a script, or of a scan where no script is named.
+/// The script, where one is named.
 fn load_script<F: Files>(
     alloc: Global,
     files: &mut F,
     script: Option<&str>,
-) -> Result<Script, Status>
+) -> Result<Option<Script>, Status>
     ensures ok { IfOk result (GivesScript (where_told (F.bytes files.old)) (option_map (λ s. s.now) script.entry)) }
     ensures err { IfErr result (IsScriptStop (F.bytes files.old) (F.failed files.old) (F.failed files.new) (option_map (λ s. s.now) script.entry)) }
 {
     match script {
-        Some(script) => reading::load::<F, Script>(alloc, files, script),
-        None => match Script::scan(alloc) {
-            Ok(script) => Ok(script),
-            Err(_) => Err(Status::OutOfMemory),
+        Some(script) => match reading::load_script(alloc, files, script) {
+            Ok(script) => Ok(Some(script)),
+            Err(status) => Err(status),
         },
+        None => Ok(None),
     }
 }
 
@@ -188,7 +185,7 @@ pub fn load_all<F: Files>(
         Ok(loaded) => loaded,
         Err(status) => return Err(status),
     };
-    let text = match reading::load::<F, TextFile>(alloc, files, text) {
+    let text = match reading::load_text(alloc, files, text) {
         Ok(text) => text,
         Err(status) => return Err(status),
     };

@@ -1,6 +1,7 @@
 //! How a run ended, and what is printed of it.
 ghost use Rattle.std.specs.Prelude.{◌≡◌, ◌++◌, ℕ, IfOk, string_bytes, codes, chars, decimal, encode_utf8_all};
 ghost use Rattle.tm_app.specs.Status.{status_text, status_code, what_text, path_text, usage_text};
+ghost use Rattle.tm_app.specs.Told.{IsRefusalOf};
 
 use std::alloc::Global;
 use tm_defs::memory::OutOfMemory;
@@ -18,7 +19,16 @@ pub enum What {
     NotYet,
     /// The grammars of the setting with this grammar have more than 65,535 rules.
     TooManyRules,
-    /// The places of the edit at this line of the script are not in the text.
+    /// The byte of a text file at this offset is the first that is no UTF-8.
+    NotUtf8(u64),
+    /// A text has more than 16,777,216 characters: that of the text file, or the text behind the edit at this line of
+    /// the script.
+    TextFull(Option<u32>),
+    /// The line of a script of this number is the first that is neither blank nor a step.
+    BadStep(u32),
+    /// A script has more than 1,000,000 steps.
+    TooManySteps,
+    /// The place, the line or the setting of the step at this line of the script is not there.
     BadPlace(u32),
 }
 
@@ -46,6 +56,16 @@ pub fn name_of(alloc: Global, text: &str) -> Result<Name, OutOfMemory>
     ensures { IfOk result (λ name. name ≡ chars text.now) }
 {
     Ok(Name::new(text.chars().collect(alloc)?))
+}
+
+/// The status of a file that is refused.
+pub fn refusal(alloc: Global, file: &str, what: What) -> Status
+    ensures { IsRefusalOf file.now what result }
+{
+    match name_of(alloc, file) {
+        Ok(name) => Status::Refused(name, what),
+        Err(_) => Status::OutOfMemory,
+    }
 }
 
 /// Characters as a text.
@@ -81,6 +101,27 @@ fn bad_shape(alloc: Global, path: &Name) -> Result<String, OutOfMemory>
     }
 }
 
+fn not_utf8(alloc: Global, offset: u64) -> Result<String, OutOfMemory>
+    ensures { IfOk result (λ text. string_bytes text ≡ codes "NotUtf8 " ++ decimal offset ++ codes "\n") }
+{
+    Ok(format!(in alloc; "NotUtf8 {offset}\n")?)
+}
+
+fn text_full(alloc: Global, line: Option<u32>) -> Result<String, OutOfMemory>
+    ensures { IfOk result (λ text. string_bytes text ≡ what_text (What.TextFull line)) }
+{
+    match line {
+        None => Ok(String::from_str(alloc, "TextFull\n")?),
+        Some(line) => Ok(format!(in alloc; "TextFull {line}\n")?),
+    }
+}
+
+fn bad_step(alloc: Global, line: u32) -> Result<String, OutOfMemory>
+    ensures { IfOk result (λ text. string_bytes text ≡ codes "BadStep " ++ decimal line ++ codes "\n") }
+{
+    Ok(format!(in alloc; "BadStep {line}\n")?)
+}
+
 fn bad_place(alloc: Global, line: u32) -> Result<String, OutOfMemory>
     ensures { IfOk result (λ text. string_bytes text ≡ codes "BadPlace " ++ decimal line ++ codes "\n") }
 {
@@ -95,6 +136,10 @@ fn what_line(alloc: Global, what: &What) -> Result<String, OutOfMemory>
         What::BadShape(path) => bad_shape(alloc, path),
         What::NotYet => Ok(String::from_str(alloc, "NotYet\n")?),
         What::TooManyRules => Ok(String::from_str(alloc, "TooManyRules\n")?),
+        What::NotUtf8(offset) => not_utf8(alloc, *offset),
+        What::TextFull(line) => text_full(alloc, *line),
+        What::BadStep(line) => bad_step(alloc, *line),
+        What::TooManySteps => Ok(String::from_str(alloc, "TooManySteps\n")?),
         What::BadPlace(line) => bad_place(alloc, *line),
     }
 }

@@ -3,12 +3,12 @@ use Rattle.std.specs.Prelude.{◌≡◌, ℕ, List, [], ◌∷◌, ◌++◌, Boo
 use Rattle.tm_defs.specs.declared.frames.FrameData.{FrameData}
 use Rattle.tm_defs.specs.Tables.{TableEntries}
 use Rattle.tm_defs.specs.Tokenizer.{Tokenized}
-use Rattle.tm_forms.specs.declared.script.Scripted.{Scripted}
 use Rattle.tm_machine.specs.Documents.{Rules}
 use Rattle.tm_machine.specs.Machine.{Machine}
 use Rattle.tm_machine.specs.Reach.{Stand, stand_in, IsWithinReach}
 use Rattle.tm_model.specs.Held.{Held, held_rules}
 use Rattle.tm_outside.specs.Causes.{Takes}
+use Rattle.tm_script.specs.declared.steps.Scripted.{Scripted}
 use Rattle.tm_app.specs.declared.play.Fault.{Fault}
 use Rattle.tm_app.specs.Play.{Prints, Plays}
 use Rattle.tm_app.specs.Printed.{tells_blocked}
@@ -37,20 +37,20 @@ module _ {T P : Type 0} (plain : T → P) (tokenized : P → List FrameData → 
     pub within : IsWithinReach r past held.tables
 
   -- whatever machine the model stands for, it takes this step, and what it prints is taken
-  abbrev pub StepDone : Held T → Scripted → Held T → Option (List ℕ) → Option (List ℕ) → (seen : Bool) → Type 0
-  StepDone old x new before now seen =
+  abbrev pub StepDone : (quiet : Bool) → Held T → Scripted → Held T → Option (List ℕ) → Option (List ℕ) → (seen : Bool) → Type 0
+  StepDone quiet old x new before now seen =
       (r : Rules) (m : Machine) (past : List Stand) → Stands r old m → Contains past (stand_in m) → IsReached r past old →
-      (bytes : List ℕ) × (n : Machine) × Prints r m x.step bytes n × Stands r new n × IsReached r past new × Takes before now bytes × Tells bytes seen
+      (bytes : List ℕ) × (n : Machine) × Prints quiet r m x.step bytes n × Stands r new n × IsReached r past new × Takes before now bytes × Tells bytes seen
 
-  abbrev pub StepStopped : Held T → Scripted → Option (List ℕ) → Option (List ℕ) → (faults faults_now : ℕ) → Fault → Type 0
-  StepStopped old x before now faults faults_now fault =
-      (r : Rules) (m : Machine) (past : List Stand) → Stands r old m → Contains past (stand_in m) → IsReached r past old → StepStops r m past x before now faults faults_now fault
+  abbrev pub StepStopped : (quiet : Bool) → Held T → Scripted → Option (List ℕ) → Option (List ℕ) → (faults faults_now : ℕ) → Fault → Type 0
+  StepStopped quiet old x before now faults faults_now fault =
+      (r : Rules) (m : Machine) (past : List Stand) → Stands r old m → Contains past (stand_in m) → IsReached r past old → StepStops quiet r m past x before now faults faults_now fault
 
   -- and so with all steps of a script
-  abbrev pub AllDone : Held T → List Scripted → Option (List ℕ) → Option (List ℕ) → (seen : Bool) → Type 0
-  AllDone old xs before now seen =
+  abbrev pub AllDone : (quiet : Bool) → Held T → List Scripted → Option (List ℕ) → Option (List ℕ) → (seen : Bool) → Type 0
+  AllDone quiet old xs before now seen =
       (r : Rules) (m : Machine) → Stands r old m → IsReached r (stand_in m ∷ []) old →
-      (bytes : List ℕ) × (n : Machine) × Plays r m xs bytes n × Takes before now bytes × (tells_blocked bytes ≡ seen)
+      (bytes : List ℕ) × (n : Machine) × Plays quiet r m xs bytes n × Takes before now bytes × (tells_blocked bytes ≡ seen)
 
-  abbrev pub AllStopped : Held T → List Scripted → Option (List ℕ) → Option (List ℕ) → (faults faults_now : ℕ) → Fault → Type 0
-  AllStopped old xs before now faults faults_now fault = (r : Rules) (m : Machine) → Stands r old m → IsReached r (stand_in m ∷ []) old → PlayStops r m xs before now faults faults_now fault
+  abbrev pub AllStopped : (quiet : Bool) → Held T → List Scripted → Option (List ℕ) → Option (List ℕ) → (faults faults_now : ℕ) → Fault → Type 0
+  AllStopped quiet old xs before now faults faults_now fault = (r : Rules) (m : Machine) → Stands r old m → IsReached r (stand_in m ∷ []) old → PlayStops quiet r m xs before now faults faults_now fault

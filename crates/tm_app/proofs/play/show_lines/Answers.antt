@@ -4,7 +4,7 @@ use Rattle.tm_outside.specs.Causes.{Takes}
 use Rattle.tm_outside.proofs.Taken.{takes-trans}
 use Rattle.tm_app.specs.Printed.{line_text, shown_from}
 use Rattle.tm_app.proofs.ShownLines.{shown-next, shown-parts, show-stops, before-front}
-use Rattle.tm_app.proofs.play.show.Goals as goal
+use Rattle.tm_app.proofs.play.show_lines.Goals as goal
 
 pub returns-in-Err-write_line-clause-err : goal.returns-in-Err-write_line-clause-err
 returns-in-Err-write_line-clause-err g c =
