@@ -1,9 +1,16 @@
 -- A good run is done.
 use Rattle.std.proofs.Common.{◌≡◌, ℕ, ◌≤◌, List, [], ◌∷◌, ◌++◌, length, Option, Some, None, Bool, true, false, Result, Ok as Good, Err, arith, refl, ap, ◌∙◌, sym, subst}
-use Rattle.tm_app.specs.declared.status.What.TheVariants.{NotJson, BadShape, NotYet, TooManyRules, BadPlace}
+use Rattle.tm_app.specs.declared.status.What.{What}
+use Rattle.tm_app.specs.declared.status.What.TheVariants.{NotJson, BadShape, NotYet, TooManyRules, NotUtf8, TextFull, BadStep, TooManySteps, BadPlace}
 use Rattle.tm_app.specs.declared.status.Status.{Status}
 use Rattle.tm_app.specs.declared.status.Status.TheVariants.{Ok, Usage, FileFault, Refused, SinkFault, OutOfMemory, BudgetSeen, TableFull}
-use Rattle.tm_app.specs.Told.{Told, IsTold, where_told, always_told}
+use Rattle.tm_app.specs.Files.{IsTextFile, RefusesText, script_form, RefusesScript, IsToldOf}
+use Rattle.tm_app.specs.Told.{Told, IsTold, where_told, always_told, what_of, IsFormRefusal}
+use Rattle.tm_machine.specs.Sizes.{Fits}
+use Rattle.tm_script.specs.declared.script.ScriptFault.{ScriptFault}
+use Rattle.tm_forms.specs.Utf8.{without_mark}
+use Rattle.std.specs.Str.{IsUtf8, IsValidUpTo}
+use Rattle.std.proofs.lemmas.List.{take_all}
 use Rattle.tm_line.specs.Setting.{Setting}
 use Rattle.tm_grammar.specs.File.{GrammarTree}
 use Rattle.tm_forms.specs.declared.form.Refusal.{Refusal}
@@ -16,31 +23,58 @@ use Rattle.tm_app.specs.declared.play.Fault.TheVariants as fault
 use Rattle.tm_app.specs.Command.{Names, Command, Lint, Run, IsCommand, settings_named}
 use Rattle.tm_app.specs.inner.Given.{rules_in, setting_in, grammar_files, AllGiven, IsSettingGiven, AreGiven, AreLoaded}
 use Rattle.tm_app.specs.inner.Setup.{SetupData, Work, Linted, Played}
-use Rattle.tm_app.specs.Reading.{Part, the_settings, the_grammar, the_text, the_script, Refuses, text_form, script_form, IsReached, HasManyRules, IsLoaded, IsSetupLoaded, GivesScript}
+use Rattle.tm_app.specs.Reading.{Part, the_settings, the_grammar, the_text, the_script, Refuses, IsReached, HasManyRules, IsLoaded, IsSetupLoaded, GivesScript}
 use Rattle.tm_app.specs.Outcome.{Outcome, WorkDone, WorkStops, IsDone}
 use Rattle.tm_app.specs.Complete.{IsGood, Completes}
 use Rattle.tm_app.proofs.Commands.{one-command}
 
-one-ok : {X : Type 0} (r : Result X Refusal) (x y : X) → r ≡ Good x → r ≡ Good y → x ≡ y
+one-ok : {X E : Type 0} (r : Result X E) (x y : X) → r ≡ Good x → r ≡ Good y → x ≡ y
 one-ok r x y a b = cc
 
-ok-no-err : {X : Type 0} (r : Result X Refusal) (x : X) (cause : Refusal) → r ≡ Good x → r ≡ Err cause → ⊥
+ok-no-err : {X E : Type 0} (r : Result X E) (x : X) (cause : E) → r ≡ Good x → r ≡ Err cause → ⊥
 ok-no-err r x cause a b = cc
 
 -- what a told file says is one thing
-one-saying : {X : Type 0} (told : Option (List ℕ)) (form : List ℕ → Result X Refusal) (x y : X) → IsTold told (λ bytes. form bytes ≡ Good x) → Told told (λ bytes. form bytes ≡ Good y) → x ≡ y
+one-saying : {X E : Type 0} (told : Option (List ℕ)) (form : List ℕ → Result X E) (x y : X) → IsTold told (λ bytes. form bytes ≡ Good x) → Told told (λ bytes. form bytes ≡ Good y) → x ≡ y
 one-saying None form x y s h = absurd s
 one-saying (Some bytes) form x y s h = one-ok (form bytes) x y s h
 
-not-refused : {X : Type 0} (told : Option (List ℕ)) (form : List ℕ → Result X Refusal) (x : X) (cause : Refusal) → IsTold told (λ bytes. form bytes ≡ Good x) → Told told (λ bytes. form bytes ≡ Err cause) → ⊥
-not-refused None form x cause s h = s
-not-refused (Some bytes) form x cause s h = ok-no-err (form bytes) x cause s h
+not-refused : {X : Type 0} (told : Option (List ℕ)) (form : List ℕ → Result X Refusal) (x : X) (what : What) → IsTold told (λ bytes. form bytes ≡ Good x) → Told told (IsFormRefusal form what) → ⊥
+not-refused None form x what s h = s
+not-refused (Some bytes) form x what s h = ok-no-err (form bytes) x h.0 s h.2
 
-abbrev mk-setup : ℕ → List Setting → List ℕ → List Scripted → SetupData
-mk-setup b g t s = record { budget = b; settings = g; text = t; script = s }
+-- a text file has one text, and is not refused
+one-text : (told : Option (List ℕ)) (a b : List (List ℕ)) → IsTold told (λ bytes. IsTextFile bytes a) → Told told (λ bytes. IsTextFile bytes b) → a ≡ b
+one-text None a b s h = absurd s
+one-text (Some bytes) a b s h = s.lines ∙ sym h.lines
 
-setup-same : (m n : SetupData) → m.budget ≡ n.budget → m.settings ≡ n.settings → m.text ≡ n.text → m.script ≡ n.script → m ≡ n
-setup-same m n d a b c = ap (λ z. mk-setup z m.settings m.text m.script) d ∙ ap (λ g. mk-setup n.budget g m.text m.script) a ∙ ap (λ t. mk-setup n.budget n.settings t m.script) b ∙ ap (λ z. mk-setup n.budget n.settings n.text z) c
+utf8-is-whole : (bytes : List ℕ) (n : ℕ) → IsUtf8 bytes → IsValidUpTo bytes n → ⊥
+utf8-is-whole bytes n utf8 valid = valid.longest (length bytes) valid.short (let P : List ℕ → Type 0 = λ l. IsUtf8 l in subst P (sym (take_all (length bytes) bytes (omega arith))) utf8)
+
+text-reads : (bytes : List ℕ) (lines : List (List ℕ)) (what : What) → IsTextFile bytes lines → RefusesText bytes what → ⊥
+text-reads bytes lines (NotUtf8 offset) s h = utf8-is-whole (without_mark bytes) h.0 s.utf8 h.2
+text-reads bytes lines (TextFull step) s h = h.2 (let P : List (List ℕ) → Type 0 = λ l. Fits l in subst P s.lines s.fits)
+text-reads bytes lines NotJson s h = h
+text-reads bytes lines (BadShape path) s h = h
+text-reads bytes lines NotYet s h = h
+text-reads bytes lines TooManyRules s h = h
+text-reads bytes lines (BadStep line) s h = h
+text-reads bytes lines TooManySteps s h = h
+text-reads bytes lines (BadPlace line) s h = h
+
+text-not-refused : (told : Option (List ℕ)) (lines : List (List ℕ)) (what : What) → IsTold told (λ bytes. IsTextFile bytes lines) → Told told (λ bytes. RefusesText bytes what) → ⊥
+text-not-refused None lines what s h = s
+text-not-refused (Some bytes) lines what s h = text-reads bytes lines what s h
+
+script-not-refused : (told : Option (List ℕ)) (steps : List Scripted) (what : What) → IsTold told (λ bytes. script_form bytes ≡ Good steps) → Told told (λ bytes. RefusesScript bytes what) → ⊥
+script-not-refused None steps what s h = s
+script-not-refused (Some bytes) steps what s h = ok-no-err (script_form bytes) steps h.0 s h.2
+
+abbrev mk-setup : ℕ → List Setting → List (List ℕ) → Option (List Scripted) → SetupData
+mk-setup b g t s = record { budget = b; settings = g; lines = t; script = s }
+
+setup-same : (m n : SetupData) → m.budget ≡ n.budget → m.settings ≡ n.settings → m.lines ≡ n.lines → m.script ≡ n.script → m ≡ n
+setup-same m n d a b c = ap (λ z. mk-setup z m.settings m.lines m.script) d ∙ ap (λ g. mk-setup n.budget g m.lines m.script) a ∙ ap (λ t. mk-setup n.budget n.settings t m.script) b ∙ ap (λ z. mk-setup n.budget n.settings n.lines z) c
 
 module _ (tells : List ℕ → Option (List ℕ)) where
   one-trees : (files : List (List ℕ)) (a b : List GrammarTree) → AllGiven (always_told tells) files a → AllGiven (where_told tells) files b → a ≡ b
@@ -72,14 +106,18 @@ module _ (tells : List ℕ → Option (List ℕ)) where
       let P : SettingsData → Type 0 = λ s. AreGiven (where_told tells) s.settings b in
       (g.2 ∙ ap (λ (s : SettingsData). s.budget) e ∙ sym h.2, one-settings g.0.settings a b g.3 (subst P (sym e) h.3))
 
-  one-script : (script : Option (List ℕ)) (a b : List Scripted) → GivesScript (always_told tells) script a → GivesScript (where_told tells) script b → a ≡ b
-  one-script None a b h k = h ∙ sym k
-  one-script (Some file) a b h k = one-saying (tells file) script_form a b h k
+  one-script : (script : Option (List ℕ)) (a b : Option (List Scripted)) → GivesScript (always_told tells) script a → GivesScript (where_told tells) script b → a ≡ b
+  one-script None None None h k = refl
+  one-script (Some file) (Some a) (Some b) h k = ap Some (one-saying (tells file) script_form a b h k)
+  one-script None (Some a) b h k = absurd h
+  one-script None None (Some b) h k = absurd k
+  one-script (Some file) None b h k = absurd h
+  one-script (Some file) (Some a) None h k = absurd k
 
   one-setup : (names : Names) (a b : SetupData) → IsSetupLoaded (always_told tells) names a → IsSetupLoaded (where_told tells) names b → a ≡ b
   one-setup names a b g h =
       let s = one-loaded names.settings a.budget b.budget a.settings b.settings g.settings h.settings in
-      setup-same a b s.0 s.1 (one-saying (tells names.text) text_form a.text b.text g.text h.text) (one-script names.script a.script b.script g.script h.script)
+      setup-same a b s.0 s.1 (one-text (tells names.text) a.lines b.lines g.text h.text) (one-script names.script a.script b.script g.script h.script)
 
   one-work : (command : Command) (a b : Work) → IsLoaded (always_told tells) command a → IsLoaded (where_told tells) command b → a ≡ b
   one-work (Lint file) (Linted a) (Linted b) g h = ap Linted (one-loaded file g.0 h.0 a b g.1 h.1).1
@@ -109,8 +147,8 @@ module _ (tells : List ℕ → Option (List ℕ)) where
   loaded-settings (Lint file) (Played setup) g = absurd g
   loaded-settings (Run names) (Linted settings) g = absurd g
 
-  no-settings-refusal : (file : List ℕ) (budget : ℕ) (settings : List Setting) (cause : Refusal) → AreLoaded (always_told tells) file budget settings → Told (tells file) (λ bytes. settings_in bytes ≡ Err cause) → ⊥
-  no-settings-refusal file budget settings cause g h = not-refused (tells file) settings_in g.0 cause g.1 h
+  no-settings-refusal : (file : List ℕ) (budget : ℕ) (settings : List Setting) (what : What) → AreLoaded (always_told tells) file budget settings → Told (tells file) (IsFormRefusal settings_in what) → ⊥
+  no-settings-refusal file budget settings what g h = not-refused (tells file) settings_in g.0 what g.1 h
 
   -- a setting that the reading comes to is given
   setting-given : (file : List ℕ) (budget : ℕ) (settings : List Setting) (says : SettingsData) (front rest : List SettingFilesData) (files : SettingFilesData) → AreLoaded (always_told tells) file budget settings →
@@ -121,13 +159,13 @@ module _ (tells : List ℕ → Option (List ℕ)) where
       pick-setting front rest files settings (subst P (ap (λ (s : SettingsData). s.settings) e ∙ place) g.3)
 
   module _ (command : Command) (work : Work) (good : IsLoaded (always_told tells) command work) where
-    no-grammar-refusal : (file : List ℕ) (cause : Refusal) → IsReached command tells the_grammar file → Told (tells file) (λ bytes. grammar_in bytes ≡ Err cause) → ⊥
-    no-grammar-refusal file cause r h =
+    no-grammar-refusal : (file : List ℕ) (what : What) → IsReached command tells the_grammar file → Told (tells file) (IsFormRefusal grammar_in what) → ⊥
+    no-grammar-refusal file what r h =
         let all = loaded-settings command work good in
         let one = setting-given (settings_named command) all.0 all.1 r.0 r.2.1.front r.2.1.rest r.2.0 all.2 r.1 r.2.1.place in
         let P : List (List ℕ) → Type 0 = λ l. AllGiven (always_told tells) l (one.1.root ∷ one.1.more) in
         let tree = pick-tree r.2.2.front r.2.2.rest file (one.1.root ∷ one.1.more) (subst P r.2.2.place one.1.given) in
-        not-refused (tells file) grammar_in tree.0 cause tree.1 h
+        not-refused (tells file) grammar_in tree.0 what tree.1 h
 
     no-many : (file : List ℕ) → HasManyRules command tells file → ⊥
     no-many file r =
@@ -138,33 +176,34 @@ module _ (tells : List ℕ → Option (List ℕ)) where
         let few : length (rules_in r.2.2.1.0) ≤ rule_limit = subst P e one.1.few in
         omega (arith, few, r.2.2.1.2)
 
-  no-text-refusal : (command : Command) (work : Work) (file : List ℕ) (cause : Refusal) → IsLoaded (always_told tells) command work → IsReached command tells the_text file → Told (tells file) (λ bytes. text_form bytes ≡ Err cause) → ⊥
-  no-text-refusal (Lint settings) work file cause g r h = absurd r
-  no-text-refusal (Run names) (Linted settings) file cause g r h = absurd g
-  no-text-refusal (Run names) (Played setup) file cause g r h =
-      let Q : List ℕ → Type 0 = λ f. Told (tells f) (λ bytes. text_form bytes ≡ Err cause) in
-      not-refused (tells names.text) text_form setup.text cause g.text (subst Q r.0 h)
+  no-text-refusal : (command : Command) (work : Work) (file : List ℕ) (what : What) → IsLoaded (always_told tells) command work → IsReached command tells the_text file → Told (tells file) (λ bytes. RefusesText bytes what) → ⊥
+  no-text-refusal (Lint settings) work file what g r h = absurd r
+  no-text-refusal (Run names) (Linted settings) file what g r h = absurd g
+  no-text-refusal (Run names) (Played setup) file what g r h =
+      let Q : List ℕ → Type 0 = λ f. Told (tells f) (λ bytes. RefusesText bytes what) in
+      text-not-refused (tells names.text) setup.lines what g.text (subst Q r.0 h)
 
-  script-refused : (script : Option (List ℕ)) (file : List ℕ) (steps : List Scripted) (cause : Refusal) → GivesScript (always_told tells) script steps → Some file ≡ script → Told (tells file) (λ bytes. script_form bytes ≡ Err cause) → ⊥
-  script-refused None file steps cause h is k = absurd cc
-  script-refused (Some name) file steps cause h is k =
+  script-refused : (script : Option (List ℕ)) (file : List ℕ) (steps : Option (List Scripted)) (what : What) → GivesScript (always_told tells) script steps → Some file ≡ script → Told (tells file) (λ bytes. RefusesScript bytes what) → ⊥
+  script-refused None file steps what h is k = absurd cc
+  script-refused (Some name) file None what h is k = absurd h
+  script-refused (Some name) file (Some steps) what h is k =
       let same : file ≡ name = cc in
-      let Q : List ℕ → Type 0 = λ f. Told (tells f) (λ bytes. script_form bytes ≡ Err cause) in
-      not-refused (tells name) script_form steps cause h (subst Q same k)
+      let Q : List ℕ → Type 0 = λ f. Told (tells f) (λ bytes. RefusesScript bytes what) in
+      script-not-refused (tells name) steps what h (subst Q same k)
 
-  no-script-refusal : (command : Command) (work : Work) (file : List ℕ) (cause : Refusal) → IsLoaded (always_told tells) command work → IsReached command tells the_script file → Told (tells file) (λ bytes. script_form bytes ≡ Err cause) → ⊥
-  no-script-refusal (Lint settings) work file cause g r h = absurd r
-  no-script-refusal (Run names) (Linted settings) file cause g r h = absurd g
-  no-script-refusal (Run names) (Played setup) file cause g r h = script-refused names.script file setup.script cause g.script r.0 h
+  no-script-refusal : (command : Command) (work : Work) (file : List ℕ) (what : What) → IsLoaded (always_told tells) command work → IsReached command tells the_script file → Told (tells file) (λ bytes. RefusesScript bytes what) → ⊥
+  no-script-refusal (Lint settings) work file what g r h = absurd r
+  no-script-refusal (Run names) (Linted settings) file what g r h = absurd g
+  no-script-refusal (Run names) (Played setup) file what g r h = script-refused names.script file setup.script what g.script r.0 h
 
-  no-refusal : (command : Command) (work : Work) (part : Part) (file : List ℕ) (cause : Refusal) → IsLoaded (always_told tells) command work → IsReached command tells part file → Told (tells file) (λ bytes. Refuses part bytes cause) → ⊥
-  no-refusal command work the_settings file cause g r h =
-      let Q : List ℕ → Type 0 = λ f. Told (tells f) (λ bytes. settings_in bytes ≡ Err cause) in
+  no-refusal : (command : Command) (work : Work) (part : Part) (file : List ℕ) (what : What) → IsLoaded (always_told tells) command work → IsReached command tells part file → Told (tells file) (λ bytes. Refuses part bytes what) → ⊥
+  no-refusal command work the_settings file what g r h =
+      let Q : List ℕ → Type 0 = λ f. Told (tells f) (IsFormRefusal settings_in what) in
       let all = loaded-settings command work g in
-      no-settings-refusal (settings_named command) all.0 all.1 cause all.2 (subst Q r h)
-  no-refusal command work the_grammar file cause g r h = no-grammar-refusal command work g file cause r h
-  no-refusal command work the_text file cause g r h = no-text-refusal command work file cause g r h
-  no-refusal command work the_script file cause g r h = no-script-refusal command work file cause g r h
+      no-settings-refusal (settings_named command) all.0 all.1 what all.2 (subst Q r h)
+  no-refusal command work the_grammar file what g r h = no-grammar-refusal command work g file what r h
+  no-refusal command work the_text file what g r h = no-text-refusal command work file what g r h
+  no-refusal command work the_script file what g r h = no-script-refusal command work file what g r h
 
 module _ (words : List (List ℕ)) (tells : List ℕ → Option (List ℕ)) (failed failed_now : List (List ℕ)) (taken taken_now : Option (List ℕ)) (faults faults_now : ℕ) where
   module _ (work : Work) (good : IsGood words tells failed failed_now faults faults_now work) where
@@ -183,8 +222,8 @@ module _ (words : List (List ℕ)) (tells : List ℕ → Option (List ℕ)) (fai
     reached-as : (command : Command) (part : Part) (file : List ℕ) → IsCommand words command → IsReached command tells part file → IsReached good.command tells part file
     reached-as command part file is reached = let R : Command → Type 0 = λ c. IsReached c tells part file in subst R (one-command words command good.command is good.says) reached
 
-    refused-never : (command : Command) (part : Part) (file : List ℕ) (cause : Refusal) → IsCommand words command → IsReached command tells part file → Told (tells file) (λ bytes. Refuses part bytes cause) → ⊥
-    refused-never command part file cause is reached h = no-refusal tells good.command work part file cause good.loaded (reached-as command part file is reached) h
+    refused-never : (command : Command) (part : Part) (file : List ℕ) (what : What) → IsCommand words command → IsReached command tells part file → Told (tells file) (λ bytes. Refuses part bytes what) → ⊥
+    refused-never command part file what is reached h = no-refusal tells good.command work part file what good.loaded (reached-as command part file is reached) h
 
     many-never : (command : Command) (file : List ℕ) → IsCommand words command → HasManyRules command tells file → ⊥
     many-never command file is many = let M : Command → Type 0 = λ c. HasManyRules c tells file in no-many tells good.command work good.loaded file (subst M (one-command words command good.command is good.says) many)
@@ -200,9 +239,14 @@ module _ (words : List (List ℕ)) (tells : List ℕ → Option (List ℕ)) (fai
   completes work good TableFull h = stops-so work good h.0 h.3.0 fault.TableFull h.1 h.3.1 h.3.2
   completes work good Usage h = h.0 good.command good.says
   completes work good (FileFault name) h = good.reads h.2.0 h.2.1 (reached-as work good h.0 h.2.0 h.2.1 h.1 h.2.3) h.2.4
-  completes work good (Refused name NotJson) h = refused-never work good h.0 h.2.0 h.2.1 h.2.4.0 h.1 h.2.3 h.2.4.2
-  completes work good (Refused name (BadShape path)) h = refused-never work good h.0 h.2.0 h.2.1 h.2.4.0 h.1 h.2.3 h.2.4.2
-  completes work good (Refused name NotYet) h = refused-never work good h.0 h.2.0 h.2.1 h.2.4.0 h.1 h.2.3 h.2.4.2
+  completes work good (Refused name NotJson) h = refused-never work good h.0 h.2.0 h.2.1 NotJson h.1 h.2.3 h.2.4
+  completes work good (Refused name (BadShape path)) h = refused-never work good h.0 h.2.0 h.2.1 (BadShape path) h.1 h.2.3 h.2.4
+  completes work good (Refused name NotYet) h = refused-never work good h.0 h.2.0 h.2.1 NotYet h.1 h.2.3 h.2.4
+  completes work good (Refused name (NotUtf8 offset)) h = refused-never work good h.0 h.2.0 h.2.1 (NotUtf8 offset) h.1 h.2.3 h.2.4
+  completes work good (Refused name (TextFull None)) h = refused-never work good h.0 h.2.0 h.2.1 (TextFull None) h.1 h.2.3 h.2.4
+  completes work good (Refused name (BadStep line)) h = refused-never work good h.0 h.2.0 h.2.1 (BadStep line) h.1 h.2.3 h.2.4
+  completes work good (Refused name TooManySteps) h = refused-never work good h.0 h.2.0 h.2.1 TooManySteps h.1 h.2.3 h.2.4
   completes work good (Refused name TooManyRules) h = many-never work good h.0 h.2.0 h.1 h.2.2
   completes work good (Refused name (BadPlace line)) h = stops-so work good h.0 h.3.0 (fault.BadPlace line) h.1 h.3.1 h.3.2
+  completes work good (Refused name (TextFull (Some line))) h = stops-so work good h.0 h.3.0 (fault.TextFull line) h.1 h.3.1 h.3.2
   completes work good SinkFault h = sink-never work good h.0 h.3.0 h.1 h.3.1 h.3.2

@@ -4,13 +4,12 @@ use Rattle.std.proofs.Common.{◌≡◌, ℕ, List, [], ◌∷◌, Bool, Option,
 use Rattle.tm_script.specs.declared.steps.Scripted.{Scripted}
 use Rattle.tm_line.specs.Setting.{Setting}
 use Rattle.tm_line.specs.Tokenizing.{rules_tokenized, rules_cost, rules_made}
-use Rattle.tm_machine.specs.Changes.{lines_of}
 use Rattle.tm_machine.specs.Machine.{machine_of}
 use Rattle.tm_machine.specs.Reach.{stand_in}
 use Rattle.tm_model.specs.Held.{Held, new_model}
 use Rattle.tm_app.specs.declared.play.Fault.{Fault}
 use Rattle.tm_app.specs.Outcome.{LinesPlay, LinesStop, SetupPlays, SetupStops, grammar_rules}
-use Rattle.tm_app.specs.inner.Setup.{SetupData}
+use Rattle.tm_app.specs.inner.Setup.{SetupData, is_quiet, steps_played}
 use Rattle.tm_app.specs.inner.Stands.{Stands, IsReached, AllDone, AllStopped, table_limit}
 use Rattle.tm_app.proofs.CostlyLines.{costly-lines}
 use Rattle.tm_app.proofs.StandSteps.{new-stands, new-reached}
@@ -31,27 +30,11 @@ module _ (settings : List Setting) (budget : ℕ) (lines : List (List ℕ)) (hel
       let Q : Held Setting → Type 0 = λ h. IsReached itself rules_tokenized rules_cost rules_made (grammar_rules settings budget) (stand_in (machine_of lines) ∷ []) h in
       subst Q (sym is) (new-reached itself rules_tokenized rules_cost rules_made settings budget lines (grammar_rules settings budget) (stand_in (machine_of lines) ∷ []))
 
-  pub lines-play : (steps : List Scripted) (a b : Option (List ℕ)) (seen : Bool) → AllDone itself rules_tokenized rules_cost rules_made held steps a b seen → LinesPlay settings budget lines steps a b seen
-  lines-play steps a b seen h =
+  pub lines-play : (quiet : Bool) (steps : List Scripted) (a b : Option (List ℕ)) (seen : Bool) → AllDone itself rules_tokenized rules_cost rules_made quiet held steps a b seen → LinesPlay settings budget quiet lines steps a b seen
+  lines-play quiet steps a b seen h =
       let r = grammar_rules settings budget in
       let did = h r (machine_of lines) stands reached in
-      (did.0, did.1, did.2, did.3, did.4, λ is. costly-lines r lines did.1 steps did.0 did.2 (did.4 ∙ is))
+      (did.0, did.1, did.2, did.3, did.4, λ is. costly-lines r quiet lines did.1 steps did.0 did.2 (did.4 ∙ is))
 
-  pub lines-stop : (steps : List Scripted) (a b : Option (List ℕ)) (f g : ℕ) (fault : Fault) → AllStopped itself rules_tokenized rules_cost rules_made held steps a b f g fault → LinesStop settings budget lines steps a b f g fault
-  lines-stop steps a b f g fault h = h (grammar_rules settings budget) (machine_of lines) stands reached
-
--- the run of what was read
-module _ (setup : SetupData) (settings : List Setting) (lines : List (List ℕ)) (steps : List Scripted) (a b : Option (List ℕ)) where
-  pub setup-play : (seen : Bool) → settings ≡ setup.settings → lines ≡ lines_of setup.text → steps ≡ setup.script → LinesPlay settings setup.budget lines steps a b seen → SetupPlays setup a b seen
-  setup-play seen e f h done =
-      let P : List Setting → Type 0 = λ z. LinesPlay z setup.budget (lines_of setup.text) setup.script a b seen in
-      let Q : List (List ℕ) → Type 0 = λ z. LinesPlay settings setup.budget z setup.script a b seen in
-      let R : List Scripted → Type 0 = λ z. LinesPlay settings setup.budget lines z a b seen in
-      subst P e (subst Q f (subst R h done))
-
-  pub setup-stop : (f0 f1 : ℕ) (fault : Fault) → settings ≡ setup.settings → lines ≡ lines_of setup.text → steps ≡ setup.script → LinesStop settings setup.budget lines steps a b f0 f1 fault → SetupStops setup a b f0 f1 fault
-  setup-stop f0 f1 fault e f h stopped =
-      let P : List Setting → Type 0 = λ z. LinesStop z setup.budget (lines_of setup.text) setup.script a b f0 f1 fault in
-      let Q : List (List ℕ) → Type 0 = λ z. LinesStop settings setup.budget z setup.script a b f0 f1 fault in
-      let R : List Scripted → Type 0 = λ z. LinesStop settings setup.budget lines z a b f0 f1 fault in
-      subst P e (subst Q f (subst R h stopped))
+  pub lines-stop : (quiet : Bool) (steps : List Scripted) (a b : Option (List ℕ)) (f g : ℕ) (fault : Fault) → AllStopped itself rules_tokenized rules_cost rules_made quiet held steps a b f g fault → LinesStop settings budget quiet lines steps a b f g fault
+  lines-stop quiet steps a b f g fault h = h (grammar_rules settings budget) (machine_of lines) stands reached

@@ -12,8 +12,9 @@ use Rattle.tm_rules.specs.Sizes.{rule_limit}
 use Rattle.tm_app.specs.declared.status.Status.{Status}
 use Rattle.tm_app.specs.Command.{Names, Lint, Run}
 use Rattle.tm_app.specs.inner.Given.{rules_in, setting_in, grammar_files, AllGiven, IsSettingGiven, AreGiven, AreLoaded, IsFileReached, IsGrammarReached, HasTooMany, IsTooMany}
-use Rattle.tm_app.specs.Reading.{the_grammar, the_text, text_form, no_file, IsGrammarPart, IsReadStop, IsReached, HasManyRules, IsLoadStop, IsScriptStop, GivesScript}
-use Rattle.tm_app.specs.Told.{Told, where_told, HasGrown, IsFileStop, IsBuildStop}
+use Rattle.tm_app.specs.Reading.{the_grammar, the_text, no_file, IsGrammarPart, IsReadStop, IsReached, HasManyRules, IsLoadStop, IsScriptStop, GivesScript}
+use Rattle.tm_app.specs.Files.{IsTextFile, RefusesText}
+use Rattle.tm_app.specs.Told.{Told, where_told, HasGrown, IsFormRefusal, IsFileStop, IsBuildStop}
 use Rattle.tm_app.proofs.Givens.{all-given-next, are-given-next, file-next, setting-next, file-first, file-later, given-many}
 use Rattle.tm_app.proofs.ReadStops.{told-as, grown-none, file-stop, read-within, build-stop, grammar-within, grammar-reached, script-stop}
 use Rattle.tm_app.proofs.SettingsSome.{settings-some}
@@ -29,7 +30,7 @@ abbrev pub TreesStop : (List ℕ → Option (List ℕ)) → List (List ℕ) → 
 TreesStop tells files = IsReadStop tells (IsGrammarPart (IsFileReached (where_told tells) files)) no_file
 
 abbrev pub GrammarStop : Option (List ℕ) → List (List ℕ) → List (List ℕ) → List ℕ → Status → Type 0
-GrammarStop told = IsFileStop (λ cause. Told told (λ bytes. grammar_in bytes ≡ Err cause))
+GrammarStop told = IsFileStop (λ what. Told told (IsFormRefusal grammar_in what))
 
 file-at : (names : List (String Global)) (i : ℕ) (name : String Global) (file : List ℕ) → i < length names → name ≡ get_or names i name → file ≡ string_bytes name → file ≡ get_or (map string_bytes names) i file
 file-at names i name file lt is at = at ∙ ap string_bytes is ∙ sym (get_or-map string_bytes names i name file lt)
@@ -112,21 +113,21 @@ module _ (tells now : List ℕ → Option (List ℕ)) (same : (file : List ℕ) 
 
   -- text and script behind the settings
   pub text-stop : (names : Names) (budget : ℕ) (settings : List Setting) (old mid new : List (List ℕ)) (ended : Status) → AreLoaded (where_told tells) names.settings budget settings → HasGrown old mid →
-      IsFileStop (λ cause. Told (now names.text) (λ bytes. text_form bytes ≡ Err cause)) mid new names.text ended → IsLoadStop (Run names) tells old new ended
+      IsFileStop (λ what. Told (now names.text) (λ bytes. RefusesText bytes what)) mid new names.text ended → IsLoadStop (Run names) tells old new ended
   text-stop names budget settings old mid new ended loaded grown stop =
-      let P : Option (List ℕ) → Type 0 = λ t. IsFileStop (λ cause. Told t (λ bytes. text_form bytes ≡ Err cause)) mid new names.text ended in
+      let P : Option (List ℕ) → Type 0 = λ t. IsFileStop (λ what. Told t (λ bytes. RefusesText bytes what)) mid new names.text ended in
       file-stop tells (IsReached (Run names) tells) (HasManyRules (Run names) tells) the_text names.text old mid new ended (refl, (budget, settings, loaded)) grown (subst P (same names.text) stop)
 
-  pub text-given : (names : Names) (text : List ℕ) → Told (now names.text) (λ bytes. text_form bytes ≡ Good text) → Told (tells names.text) (λ bytes. text_form bytes ≡ Good text)
-  text-given names text told = told-as (now names.text) (tells names.text) (λ bytes. text_form bytes ≡ Good text) (same names.text) told
+  pub text-given : (names : Names) (lines : List (List ℕ)) → Told (now names.text) (λ bytes. IsTextFile bytes lines) → Told (tells names.text) (λ bytes. IsTextFile bytes lines)
+  text-given names lines told = told-as (now names.text) (tells names.text) (λ bytes. IsTextFile bytes lines) (same names.text) told
 
-  pub script-stops : (names : Names) (budget : ℕ) (settings : List Setting) (text : List ℕ) (old mid new : List (List ℕ)) (ended : Status) → AreLoaded (where_told tells) names.settings budget settings → Told (tells names.text) (λ bytes. text_form bytes ≡ Good text) → HasGrown old mid →
+  pub script-stops : (names : Names) (budget : ℕ) (settings : List Setting) (lines : List (List ℕ)) (old mid new : List (List ℕ)) (ended : Status) → AreLoaded (where_told tells) names.settings budget settings → Told (tells names.text) (λ bytes. IsTextFile bytes lines) → HasGrown old mid →
       IsScriptStop now mid new names.script ended → IsLoadStop (Run names) tells old new ended
-  script-stops names budget settings text old mid new ended loaded told grown stop =
+  script-stops names budget settings lines old mid new ended loaded told grown stop =
       let P : (List ℕ → Option (List ℕ)) → Type 0 = λ t. IsScriptStop t mid new names.script ended in
-      script-stop names tells old mid new ended (budget, settings, loaded) (text, told) grown (subst P (fun_ext same) stop)
+      script-stop names tells old mid new ended (budget, settings, loaded) (lines, told) grown (subst P (fun_ext same) stop)
 
-  pub script-given : (script : Option (List ℕ)) (steps : List Scripted) → GivesScript (where_told now) script steps → GivesScript (where_told tells) script steps
+  pub script-given : (script : Option (List ℕ)) (steps : Option (List Scripted)) → GivesScript (where_told now) script steps → GivesScript (where_told tells) script steps
   script-given script steps h = let P : (List ℕ → Option (List ℕ)) → Type 0 = λ t. GivesScript (where_told t) script steps in subst P (fun_ext same) h
 
 -- the grammar of a setting

@@ -14,4 +14,3 @@ pub mod StandSteps
 pub mod StepTests
 pub mod StepsDone
 pub mod Tells
-pub mod TextSizes

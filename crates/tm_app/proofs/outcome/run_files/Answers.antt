@@ -2,7 +2,7 @@ use Rattle.std.proofs.Common.{◌≡◌, Bool, true, false, refl, inr, ap, subst
 use Rattle.tm_app.specs.Outcome.{SetupPlays}
 use Rattle.tm_app.specs.Command.{Names, Run}
 use Rattle.tm_app.specs.inner.Setup.{setup_data, Played}
-use Rattle.tm_app.proofs.Outcomes.{load-outcome, place-outcome}
+use Rattle.tm_app.proofs.Outcomes.{load-outcome, place-outcome, text-outcome, scan-has-no-place, scan-is-not-full}
 use Rattle.tm_app.proofs.PlayRuns.{takes-none}
 use Rattle.tm_app.proofs.outcome.run_files.Goals as goal
 
