@@ -1,0 +1,4 @@
+mod Arrivals
+mod BornItems
+pub mod Effects
+pub mod RightItems

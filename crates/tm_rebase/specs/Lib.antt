@@ -1,3 +1,4 @@
+pub mod Accepted
 pub mod Batches
 pub mod Places
 pub mod Right

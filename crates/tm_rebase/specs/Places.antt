@@ -1,5 +1,5 @@
--- What the line map needs of its numbers.
-use Rattle.std.specs.Prelude.{ℕ, ◌^◌, ◌<◌, List, [], ◌∷◌, MatchOption}
+-- What the line map needs of its numbers, and how it takes neighbouring lines.
+use Rattle.std.specs.Prelude.{ℕ, ◌+◌, ◌^◌, ◌<◌, List, [], ◌∷◌, Option, MatchOption, option_map}
 use Rattle.tm_defs.specs.declared.changes.LineEffect.{LineEffect}
 use Rattle.tm_machine.specs.Changes.{moved}
 
@@ -13,3 +13,7 @@ pub record IsSmallEffect (e : LineEffect) : Type 0 where
 abbrev pub HasSmallPlaces : List LineEffect → ℕ → Type 0
 HasSmallPlaces [] i = i < 2 ^ 31
 HasSmallPlaces (e ∷ es) i = (i < 2 ^ 31) × IsSmallEffect e × MatchOption (moved e i) (Unit {0}) (HasSmallPlaces es)
+
+-- so many lines behind where a line went
+abbrev pub moved_on : ℕ → Option ℕ → Option ℕ
+moved_on k at = option_map (λ j. j + k) at

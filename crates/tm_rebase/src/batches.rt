@@ -46,6 +46,13 @@ impl Items {
     {
         self.items.as_slice()
     }
+
+    /// The items themselves. It takes no memory.
+    pub fn into_vec(self) -> Vec<Item>
+        ensures { result.items ≡ self }
+    {
+        self.items
+    }
 }
 
 /// Results for the lines from `first` on: the state before that line, and an item for each line.
@@ -107,5 +114,12 @@ impl Batch {
         ensures { result.now ≡ self.now.runs }
     {
         self.runs.as_slice()
+    }
+
+    /// The runs themselves. It takes no memory.
+    pub fn into_runs(self) -> Vec<Run>
+        ensures { result.items ≡ self.runs }
+    {
+        self.runs
     }
 }

@@ -6,6 +6,7 @@
 #![tactic(auto)]
 
 pub mod batches;
+pub mod laws;
 pub mod orders;
 pub mod places;
 mod threads;

@@ -2,7 +2,7 @@
 use Rattle.std.proofs.Common.{◌≡◌, ℕ, ◌+◌, ◌-◌, ◌<◌, ◌≤◌, Bool, true, false, nat_lt, List, [], ◌∷◌, Some, None, Option, refl, arith}
 use Rattle.tm_defs.specs.declared.changes.LineEffect.{LineEffect}
 use Rattle.tm_machine.specs.Changes.{line_after, moved}
-use Rattle.tm_accept.specs.Accepted.{count_before, Fit}
+use Rattle.tm_rebase.specs.Accepted.{count_before, Fit}
 
 moved-within : (e : LineEffect) (es : List LineEffect) (n i j : ℕ) → i < count_before (e ∷ es) n → e.first + e.new ≤ count_before es n → moved e i ≡ Some j → j < count_before es n
 moved-within e es n i j h f m = go (nat_lt i e.first) refl (nat_lt i (e.first + e.old)) refl

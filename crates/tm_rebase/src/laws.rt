@@ -13,7 +13,7 @@ ghost use Rattle.tm_machine.specs.Turns.{opening};
 ghost use Rattle.tm_rebase.specs.declared.batches.Run.{Run};
 ghost use Rattle.tm_rebase.specs.Batches.{Placed, items_of_runs};
 ghost use Rattle.tm_rebase.specs.Right.{IsRightRun};
-ghost use Rattle.tm_accept.specs.Accepted.{Fit, IsRightPlaced, IsSameItem, all_placed, count_before, placed_uses};
+ghost use Rattle.tm_rebase.specs.Accepted.{Fit, IsRightPlaced, IsSameItem, all_placed, count_before, placed_uses};
 
 /// Items with line numbers are used as the machine of births uses its own: no line is behind the text, and none has other
 /// characters.

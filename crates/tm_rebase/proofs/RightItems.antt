@@ -21,8 +21,9 @@ use Rattle.tm_rebase.specs.declared.batches.Item.{Item}
 use Rattle.tm_rebase.specs.declared.batches.Run.{Run}
 use Rattle.tm_rebase.specs.Batches.{Placed, applied, placed_from, items_of_runs}
 use Rattle.tm_rebase.specs.Right.{AreRightItems, IsRightRun}
-use Rattle.tm_accept.specs.Accepted.{IsRightPlaced, all_placed, count_before, placed_entries, used_met, use_met}
-use Rattle.tm_accept.proofs.BornItems.{text-same}
+use Rattle.tm_rebase.specs.declared.places.Arrival.TheVariants.{Same}
+use Rattle.tm_rebase.specs.Accepted.{IsRightPlaced, all_placed, count_before, entries_there, met_line, placed_entries}
+use Rattle.tm_rebase.proofs.BornItems.{text-same}
 
 put-past : (es : List (Entry (List FrameData))) (i : ℕ) (tokens : List Token) (end : List FrameData) (same : Bool) → length es ≤ i → put es i tokens end same ≡ es
 put-past [] i tokens end same l = refl
@@ -55,25 +56,31 @@ module _ (k : Tokenizing) where
             let le : length es ≤ i = grind (arith, b) in
             subst (AreRight k budget opening lines) (sym (put-past es i p.tokens p.end (is_end (end_at es i) p.end) le)) h
 
-    met-right : (es : List (Entry (List FrameData))) (p : Placed (List FrameData)) (o : Option ℕ) → IsRightPlaced k p → AreRight k budget opening lines es →
-        AreRight k budget opening lines (used_met is_end opening effects lines (use_met is_end opening effects lines es p o) es p o)
-    met-right es p None r h = h
-    met-right es p (Some i) r h = go (same_text p.line (line_at lines i)) refl (good_at es i) refl (is_end (start_at opening es i) p.start) refl
+    there-right : (es : List (Entry (List FrameData))) (p : Placed (List FrameData)) (i : ℕ) → IsRightPlaced k p → p.line ≡ line_at lines i → AreRight k budget opening lines es →
+        AreRight k budget opening lines (entries_there is_end opening es p.made (Same i))
+    there-right es p i r l h = go (good_at es i) refl (is_end (start_at opening es i) p.start) refl
       where
-        go : (s : Bool) → same_text p.line (line_at lines i) ≡ s → (g : Bool) → good_at es i ≡ g → (e : Bool) → is_end (start_at opening es i) p.start ≡ e →
-            AreRight k budget opening lines (used_met is_end opening effects lines (use_met is_end opening effects lines es p (Some i)) es p (Some i))
-        go false s g q e w = rw s h
-        go true s true q e w = rw (s, q) h
-        go true s false q true w = rw (s, q, w) (put-right es p i r (text-same.equal p.line (line_at lines i) s) (is_end-true (start_at opening es i) p.start w) h)
-        go true s false q false w = rw (s, q, w) (AreRight-guess k budget opening lines es i p.tokens p.end (is_end (end_at es i) p.end) h q (λ e. is_end-true (end_at es i) p.end e))
+        go : (g : Bool) → good_at es i ≡ g → (e : Bool) → is_end (start_at opening es i) p.start ≡ e → AreRight k budget opening lines (entries_there is_end opening es p.made (Same i))
+        go true q e w = rw q h
+        go false q true w = rw (q, w) (put-right es p i r l (is_end-true (start_at opening es i) p.start w) h)
+        go false q false w = rw (q, w) (AreRight-guess k budget opening lines es i p.tokens p.end (is_end (end_at es i) p.end) h q (λ e. is_end-true (end_at es i) p.end e))
+
+    met-right : (es : List (Entry (List FrameData))) (p : Placed (List FrameData)) (o : Option ℕ) → IsRightPlaced k p → AreRight k budget opening lines es →
+        AreRight k budget opening lines (entries_there is_end opening es p.made (met_line p.line lines o))
+    met-right es p None r h = h
+    met-right es p (Some i) r h = go (same_text p.line (line_at lines i)) refl (there-right es p i r)
+      where
+        go : (s : Bool) → same_text p.line (line_at lines i) ≡ s → (p.line ≡ line_at lines i → AreRight k budget opening lines es → AreRight k budget opening lines (entries_there is_end opening es p.made (Same i))) →
+            AreRight k budget opening lines (entries_there is_end opening es p.made (met_line p.line lines (Some i)))
+        go false s t = rw s h
+        go true s t = rw s (t (text-same.equal p.line (line_at lines i) s) h)
 
     placed-right : (es : List (Entry (List FrameData))) (p : Placed (List FrameData)) → IsRightPlaced k p → AreRight k budget opening lines es → AreRight k budget opening lines (placed_entries is_end opening effects lines es p)
-    placed-right es p r h = go (nat_lt p.place (count_before effects (length lines))) refl (line_after effects p.place) refl
+    placed-right es p r h = go (nat_lt p.place (count_before effects (length lines))) refl
       where
-        go : (b : Bool) → nat_lt p.place (count_before effects (length lines)) ≡ b → (o : Option ℕ) → line_after effects p.place ≡ o → AreRight k budget opening lines (placed_entries is_end opening effects lines es p)
-        go true b o q = rw b (met-right es p (line_after effects p.place) r h)
-        go false b None q = rw (b, q) h
-        go false b (Some i) q = rw (b, q) h
+        go : (b : Bool) → nat_lt p.place (count_before effects (length lines)) ≡ b → AreRight k budget opening lines (placed_entries is_end opening effects lines es p)
+        go true b = rw b (met-right es p (line_after effects p.place) r h)
+        go false b = rw b h
 
     pub all-placed-right : (es : List (Entry (List FrameData))) (ps : List (Placed (List FrameData))) → AllByRecursion (IsRightPlaced k) ps → AreRight k budget opening lines es → AreRight k budget opening lines (all_placed is_end opening effects lines es ps)
     all-placed-right es [] r h = h

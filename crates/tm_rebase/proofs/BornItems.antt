@@ -1,6 +1,6 @@
 -- Items with line numbers are used as the machine uses its own.
 use Rattle.std.proofs.Common.{◌≡◌, ℕ, true, nat_lt, nat_eq, List, [], ◌∷◌, length, Option, Some, None, refl, sym, ap, ◌∙◌, arith, eqb-true, eq-eqb}
-use Rattle.std.specs.Prelude.{slice_get}
+use Rattle.std.specs.Prelude.{slice_get, if◌then◌else◌}
 use Rattle.std.specs.List.{AllByRecursion, AllZip}
 use Rattle.std.proofs.lemmas.Option.{get_or_from_slice_get}
 use Rattle.tm_defs.specs.declared.changes.LineEffect.{LineEffect}
@@ -18,34 +18,44 @@ use Rattle.tm_machine.specs.States.{same_text}
 use Rattle.tm_machine.specs.Turns.{opening}
 use Rattle.tm_machine.proofs.SameStates.{IsSame, IsSame-list}
 use Rattle.tm_rebase.specs.Batches.{Placed}
-use Rattle.tm_accept.specs.Accepted.{IsSameItem, all_placed, count_before, placed_entries, placed_use, placed_uses, use_met, used_met}
+use Rattle.tm_rebase.specs.declared.places.Arrival.TheVariants.{Behind}
+use Rattle.tm_rebase.specs.Accepted.{IsSameItem, all_placed, arrival, count_before, entries_there, met_line, placed_entries, placed_use, placed_uses, use_there}
 
 pub text-same : IsSame same_text
 text-same = IsSame-list nat_eq (record { equal = λ a b e. eqb-true a b e; self = λ a. eq-eqb a a refl })
 
 module _ (k : Tokenizing) (effects : List LineEffect) (t : BornText) where
-  met-use : (es : List (Entry (List FrameData))) (p : Placed (List FrameData)) (x : Item) (o : Option ℕ) → p.made ≡ x.made → ((i : ℕ) → o ≡ Some i → slice_get t.lines i ≡ Some x.line) →
-      use_met is_end opening effects t.lines es p o ≡ use_at es x o
-  met-use es p x None m l = refl
-  met-use es p x (Some i) m l =
+  met-use : (es : List (Entry (List FrameData))) (x : Item) (o : Option ℕ) → ((i : ℕ) → o ≡ Some i → slice_get t.lines i ≡ Some x.line) →
+      use_there is_end opening es x.made (met_line x.line t.lines o) ≡ use_at es x o
+  met-use es x None l = refl
+  met-use es x (Some i) l =
       let at : line_at t.lines i ≡ x.line = get_or_from_slice_get t.lines i x.line [] (l i refl) in
       let same : same_text x.line (line_at t.lines i) ≡ true = ap (same_text x.line) at ∙ text-same.self x.line in
-      ap (λ (made : Made (List FrameData)). use_of is_end opening es (same_text made.line (line_at t.lines i)) made.start i) m ∙ ap (λ b. use_of is_end opening es b x.start i) same
+      rw same refl
 
-  met-entries : (es : List (Entry (List FrameData))) (p : Placed (List FrameData)) (x : Item) (o : Option ℕ) → p.made ≡ x.made → used_met is_end opening effects t.lines (use_at es x o) es p o ≡ entries_at es x o
-  met-entries es p x None m = refl
-  met-entries es p x (Some i) m = ap (λ (made : Made (List FrameData)). used_at is_end (use_at es x (Some i)) es made.tokens made.end i) m
+  met-entries : (es : List (Entry (List FrameData))) (x : Item) (o : Option ℕ) → ((i : ℕ) → o ≡ Some i → slice_get t.lines i ≡ Some x.line) →
+      entries_there is_end opening es x.made (met_line x.line t.lines o) ≡ entries_at es x o
+  met-entries es x None l = refl
+  met-entries es x (Some i) l =
+      let at : line_at t.lines i ≡ x.line = get_or_from_slice_get t.lines i x.line [] (l i refl) in
+      let same : same_text x.line (line_at t.lines i) ≡ true = ap (same_text x.line) at ∙ text-same.self x.line in
+      rw same refl
+
+  arrives-born : (p : Placed (List FrameData)) (x : Item) → IsSameItem effects t p x → arrival effects t.lines p.place p.line ≡ met_line x.line t.lines (place_of t.births x.birth)
+  arrives-born p x h =
+      let w : nat_lt p.place (count_before effects (length t.lines)) ≡ true = let lt = h.within in grind arith in
+      ap (λ b. if b then met_line p.line t.lines (line_after effects p.place) else Behind) w
+      ∙ ap (λ o. met_line p.line t.lines o) (sym h.place) ∙ ap (λ (m : Made (List FrameData)). met_line m.line t.lines (place_of t.births x.birth)) h.made
 
   use-same : (es : List (Entry (List FrameData))) (p : Placed (List FrameData)) (x : Item) → IsSoundItem k t x → IsSameItem effects t p x → placed_use is_end opening effects t.lines es p ≡ use_at es x (place_of t.births x.birth)
   use-same es p x s h =
-      let w : nat_lt p.place (count_before effects (length t.lines)) ≡ true = let lt = h.within in grind arith in
-      rw (w, ← h.place) (met-use es p x (place_of t.births x.birth) h.made s.line)
+      ap (λ a. use_there is_end opening es p.made a) (arrives-born p x h) ∙ ap (λ m. use_there is_end opening es m (met_line x.line t.lines (place_of t.births x.birth))) h.made
+      ∙ met-use es x (place_of t.births x.birth) s.line
 
   entries-same : (es : List (Entry (List FrameData))) (p : Placed (List FrameData)) (x : Item) → IsSoundItem k t x → IsSameItem effects t p x → placed_entries is_end opening effects t.lines es p ≡ entries_at es x (place_of t.births x.birth)
   entries-same es p x s h =
-      ap (λ (u : Use). used_met is_end opening effects t.lines u es p (line_after effects p.place)) (use-same es p x s h)
-      ∙ ap (λ o. used_met is_end opening effects t.lines (use_at es x (place_of t.births x.birth)) es p o) (sym h.place)
-      ∙ met-entries es p x (place_of t.births x.birth) h.made
+      ap (λ a. entries_there is_end opening es p.made a) (arrives-born p x h) ∙ ap (λ m. entries_there is_end opening es m (met_line x.line t.lines (place_of t.births x.birth))) h.made
+      ∙ met-entries es x (place_of t.births x.birth) s.line
 
   pub all-entries-same : (es : List (Entry (List FrameData))) (ps : List (Placed (List FrameData))) (xs : List Item) → AllByRecursion (IsSoundItem k t) xs → AllZip (IsSameItem effects t) ps xs →
       all_placed is_end opening effects t.lines es ps ≡ all_used t.births es xs

@@ -1,3 +1,0 @@
-mod Arrivals
-mod BornItems
-mod RightItems

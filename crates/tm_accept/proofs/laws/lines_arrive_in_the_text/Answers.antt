@@ -1,5 +1,0 @@
-use Rattle.tm_accept.proofs.Arrivals.{arrives}
-use Rattle.tm_accept.proofs.laws.lines_arrive_in_the_text.Goals as goal
-
-pub returns : goal.returns
-returns c = arrives

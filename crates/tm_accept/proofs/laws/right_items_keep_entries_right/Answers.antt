@@ -1,5 +1,0 @@
-use Rattle.tm_accept.proofs.RightItems.{all-placed-right}
-use Rattle.tm_accept.proofs.laws.right_items_keep_entries_right.Goals as goal
-
-pub returns : goal.returns
-returns c = all-placed-right
