@@ -1,5 +1,9 @@
+pub mod Arriving
 pub mod ChangedDocuments
 pub mod EntryLists
 pub mod KeptSteps
 pub mod KeptTurns
+pub mod Numbering
+pub mod ReadItems
 pub mod SoundDocuments
+pub mod Using

@@ -1,2 +1,4 @@
+pub mod Batched
 pub mod Held
 pub mod Kept
+pub mod inner

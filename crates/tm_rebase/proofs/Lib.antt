@@ -1,4 +1,4 @@
-mod Arrivals
+pub mod Arrivals
 mod BornItems
 pub mod Effects
 pub mod RightItems
