@@ -241,3 +241,16 @@ has-states t (s ∷ states) c h =
     all-append : {X : Type 0} (P : X → Type 0) (xs ys : List X) → AllByRecursion P xs → AllByRecursion P ys → AllByRecursion P (xs ++ ys)
     all-append P [] ys a b = b
     all-append P (x ∷ xs) ys a b = (a.0, all-append P xs ys a.1 b)
+
+-- nothing is left
+drop-end : {X : Type 0} (k : ℕ) (xs : List X) → length xs ≤ k → drop k xs ≡ []
+drop-end zero [] h = refl
+drop-end zero (x ∷ xs) h = absurd (omega (arith, h))
+drop-end (suc k) [] h = refl
+drop-end (suc k) (x ∷ xs) h = drop-end k xs (omega (arith, h))
+
+pub behind-end : (P : List FrameData → Type 0) (s : List FrameData) (xs : List Item) (k : ℕ) → length xs ≤ k → AllByRecursion P (ends_behind s (drop k xs))
+behind-end P s xs k h = let Q : List Item → Type 0 = λ ys. AllByRecursion P (ends_behind s ys) in subst Q (sym (drop-end k xs h)) tt
+
+pub runs-end : (P : List FrameData → Type 0) (runs : List Run) (k : ℕ) → length runs ≤ k → AllByRecursion P (states_of_runs (drop k runs))
+runs-end P runs k h = let Q : List Run → Type 0 = λ rs. AllByRecursion P (states_of_runs rs) in subst Q (sym (drop-end k runs h)) tt

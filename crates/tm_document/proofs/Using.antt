@@ -141,8 +141,8 @@ length-first (suc n) (x ∷ xs) h = ap suc (length-first n xs (omega (arith, h))
 -- one run more
 module _ {S : Type 0} (is : Option S → S → Bool) (first : Option S) (arrivals : List Arrival) (ends : List (Ends S)) (run : Run) (runs rest : List Run) (rest_is : rest ≡ run ∷ runs) (items : List Item) (items_are : items ≡ run.items) (n : ℕ) (n_is : n ≡ length items)
     (here : n ≤ length arrivals) (there : n ≤ length ends) (es after : List (Entry S)) (after_is : after ≡ all_there is first es (take n arrivals) (mades (take n ends) items)) where
-  mades-are : mades ends (items_in rest) ≡ mades (take n ends) items ++ mades (drop n ends) (items_in runs)
-  mades-are =
+  run-mades : mades ends (items_in rest) ≡ mades (take n ends) items ++ mades (drop n ends) (items_in runs)
+  run-mades =
       ap (λ rs. mades ends (items_in rs)) rest_is ∙ ap (λ xs. mades ends (xs ++ items_in runs)) (sym items_are)
       ∙ mades-split ends items (items_in runs) (omega (arith, n_is, there)) ∙ ap (λ m. mades (take m ends) items ++ mades (drop m ends) (items_in runs)) (sym n_is)
 
@@ -154,7 +154,7 @@ module _ {S : Type 0} (is : Option S → S → Bool) (first : Option S) (arrival
       ap (λ z. all_there is first z (drop n arrivals) (mades (drop n ends) (items_in runs))) after_is
       ∙ sym (all-append is first es (take n arrivals) (drop n arrivals) (mades (take n ends) items) (mades (drop n ends) (items_in runs)) even)
       ∙ ap (λ z. all_there is first es z (mades (take n ends) items ++ mades (drop n ends) (items_in runs))) (take-append-drop n arrivals)
-      ∙ ap (all_there is first es arrivals) (sym mades-are) ∙ h
+      ∙ ap (all_there is first es arrivals) (sym run-mades) ∙ h
 
   pub run-counts : (c m whole : Counts) → m ≡ counts_from c (uses_there is first es (take n arrivals) (mades (take n ends) items)) → counts_from c (uses_there is first es arrivals (mades ends (items_in rest))) ≡ whole →
       counts_from m (uses_there is first after (drop n arrivals) (mades (drop n ends) (items_in runs))) ≡ whole
@@ -163,7 +163,7 @@ module _ {S : Type 0} (is : Option S → S → Bool) (first : Option S) (arrival
       ∙ ap (λ z. counts_from (counts_from c (uses_there is first es (take n arrivals) (mades (take n ends) items))) (uses_there is first z (drop n arrivals) (mades (drop n ends) (items_in runs)))) after_is
       ∙ sym (counts-append is first c es (take n arrivals) (drop n arrivals) (mades (take n ends) items) (mades (drop n ends) (items_in runs)) even)
       ∙ ap (λ z. counts_from c (uses_there is first es z (mades (take n ends) items ++ mades (drop n ends) (items_in runs)))) (take-append-drop n arrivals)
-      ∙ ap (λ z. counts_from c (uses_there is first es arrivals z)) (sym mades-are) ∙ h
+      ∙ ap (λ z. counts_from c (uses_there is first es arrivals z)) (sym run-mades) ∙ h
 
   pub run-length : length after ≡ length es
   run-length = ap length after_is ∙ length-all is first es (take n arrivals) (mades (take n ends) items)
@@ -179,6 +179,9 @@ total-counted c Unlike = omega arith
 total-counted c Held = omega arith
 total-counted c Kept = omega arith
 total-counted c Guessed = omega arith
+
+pub total-next : (n c : Counts) (u : Use) → n ≡ counted c u → total n ≡ suc (total c)
+total-next n c u e = ap total e ∙ total-counted c u
 
 pub total-uses : {S : Type 0} (is : Option S → S → Bool) (first : Option S) (c : Counts) (es : List (Entry S)) (arrivals : List Arrival) (xs : List (Made S)) → total (counts_from c (uses_there is first es arrivals xs)) ≤ total c + length arrivals
 total-uses is first c es [] xs = omega arith
@@ -204,3 +207,11 @@ below-drop n m zero [] s w = tt
 below-drop n m zero (x ∷ xs) s w = (let Q : ℕ → Type 0 = λ z. ArrivesBelow z x in subst Q (sym s) w.0, below-drop n m zero xs s w.1)
 below-drop n m (suc k) [] s w = tt
 below-drop n m (suc k) (x ∷ xs) s w = below-drop n m k xs s w.1
+
+-- what was done with the first of what is left
+module _ {S : Type 0} (is : Option S → S → Bool) (first : Option S) (es : List (Entry S)) (arrivals : List Arrival) (ends : List (Ends S)) (n : ℕ) (items : List Item) (some : List Arrival) (some_ends : List (Ends S)) (a : some ≡ take n arrivals) (e : some_ends ≡ take n ends) where
+  pub run-used : (after : List (Entry S)) → after ≡ all_there is first es some (mades some_ends items) → after ≡ all_there is first es (take n arrivals) (mades (take n ends) items)
+  run-used after h = h ∙ ap (λ z. all_there is first es z (mades some_ends items)) a ∙ ap (λ z. all_there is first es (take n arrivals) (mades z items)) e
+
+  pub run-used-counts : (c m : Counts) → m ≡ counts_from c (uses_there is first es some (mades some_ends items)) → m ≡ counts_from c (uses_there is first es (take n arrivals) (mades (take n ends) items))
+  run-used-counts c m h = h ∙ ap (λ z. counts_from c (uses_there is first es z (mades some_ends items))) a ∙ ap (λ z. counts_from c (uses_there is first es (take n arrivals) (mades z items))) e

@@ -1,4 +1,7 @@
 //! What becomes of a batch of the worker.
+ghost use Rattle.std.specs.Prelude.{◌≡◌};
+ghost use Rattle.tm_machine.specs.Accepts.{no_counts};
+ghost use Rattle.tm_document.specs.Batched.{counts_in};
 
 use std::sync::Arc;
 use tm_defs::texts::Line;
@@ -16,6 +19,24 @@ pub struct Report {
     pub beyond: u32,
     pub unlike: u32,
     pub pair: Option<(Arc<Line>, Arc<Line>)>,
+}
+
+impl Report {
+    /// No item is counted yet.
+    pub(crate) fn new(pair: Option<(Arc<Line>, Arc<Line>)>) -> Self
+        ensures counts { counts_in result ≡ no_counts }
+        ensures pair { result.pair ≡ pair }
+    {
+        Report {
+            kept: 0,
+            guessed: 0,
+            held: 0,
+            touched: 0,
+            beyond: 0,
+            unlike: 0,
+            pair,
+        }
+    }
 }
 
 /// Why a batch was not taken. It may be tried again.

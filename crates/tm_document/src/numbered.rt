@@ -7,8 +7,18 @@ ghost use Rattle.tm_defs.specs.Tables.{IsNumbering, state_at};
 ghost use Rattle.tm_machine.specs.Entries.{blank, front, replaced, start_at};
 ghost use Rattle.tm_machine.specs.Turns.{Turns, opening, turn_ticks};
 ghost use Rattle.tm_machine.specs.Settings.{tokenizing_of};
+ghost use Rattle.tm_machine.specs.Entries.{is_end};
 ghost use Rattle.tm_machine.specs.Numbered.{GrowsAtFront, IsKnownEnd, IsTurnCause, with_state};
+ghost use Rattle.tm_defs.specs.Tables.{GrowsWithin};
+ghost use Rattle.tm_scope.specs.Entries.{HasEntries, KeepsLimits};
+ghost use Rattle.tm_rebase.specs.Accepted.{Fit, all_placed, first_pair, placed_counts};
+ghost use Rattle.tm_rebase.specs.Batches.{count_of_items, items_of_batch};
+ghost use Rattle.tm_document.specs.Batched.{HaveSmallLines, IsAcceptCause, RunsHaveFrames, batch_entries, counts_in, half_limit, pair_in};
 
+use crate::accepting::{AcceptFault, Report};
+use crate::arrivals::{Arrived, arrivals};
+use crate::numbers::number_runs;
+use crate::uses::use_runs;
 use std::alloc::Global;
 use std::marker::Model;
 use std::sync::ledger::Ledger;
@@ -21,8 +31,10 @@ use tm_defs::tables::{States, TableFault};
 use tm_defs::texts::Line;
 use tm_defs::tokenizer::{LineFault, LineTok};
 use tm_machine::entries::Entry;
+use tm_rebase::batches::Batch;
 use tm_state::states::StateTable;
 use tm_store::store::Store;
+use tm_text::text::Text;
 
 /// The number of the opening state.
 const OPENING: StateId = StateId(0);
@@ -165,6 +177,57 @@ impl NumberedStore {
         ensures err { OnErr result (self.new ≡ self.old) }
     {
         self.store.replace(effect)
+    }
+
+    /// Takes a batch by line numbers of the text before changes. All its states get numbers, and all memory is taken,
+    /// before an entry changes; then each item is used where its line has arrived. After a refusal the table may have
+    /// grown.
+    pub fn accept(
+        &mut self,
+        text: &Text,
+        effects: &[LineEffect],
+        batch: Batch,
+    ) -> Result<Report, AcceptFault>
+        requires fit { Fit effects.now (length text.now.lines) }
+        requires beside { length self.old.entries ≡ length text.now.lines }
+        requires frames { RunsHaveFrames batch.runs }
+        requires small { HaveSmallLines batch.runs }
+        requires few { count_of_items batch.runs < 2 ^ 31 }
+        ensures entries { OnOk result (self.new.entries ≡ all_placed is_end opening effects.now text.now.lines self.old.entries (items_of_batch batch)) }
+        ensures counts { IfOk result (λ report. counts_in report ≡ placed_counts is_end opening effects.now text.now.lines self.old.entries (items_of_batch batch)) }
+        ensures pair { IfOk result (λ report. pair_in report ≡ first_pair effects.now text.now.lines (items_of_batch batch)) }
+        ensures grows { GrowsWithin (batch_entries batch) self.old.tables self.new.tables }
+        ensures limits { KeepsLimits (half_limit self.old.tables) self.old.tables self.new.tables }
+        ensures all { OnOk result (HasEntries (batch_entries batch) self.new.tables) }
+        ensures err { OnErr result (self.new.entries ≡ self.old.entries) }
+        ensures cause { IfErr result (IsAcceptCause batch self.new.tables) }
+    {
+        let alloc = batch.allocator();
+        let half = self.table.limit() / 2;
+        let Ok(arrived) = arrivals(alloc, text, effects, batch.runs()) else {
+            return Err(AcceptFault::OutOfMemory(batch));
+        };
+        let Ok(()) = self.store.reserve(2 * arrived.arrivals.len() as u32) else {
+            return Err(AcceptFault::OutOfMemory(batch));
+        };
+        let mut ends = Vec::new(alloc);
+        match number_runs(&mut self.table, batch.runs(), half, &mut ends) {
+            Ok(()) => {}
+            Err(TableFault::TableFull(count)) => return Err(AcceptFault::TableFull(count, batch)),
+            Err(TableFault::OutOfMemory) => return Err(AcceptFault::OutOfMemory(batch)),
+        }
+        self.table.prove_known();
+        self.table.prove_closed();
+        let Arrived { arrivals, pair } = arrived;
+        let mut report = Report::new(pair);
+        use_runs(
+            &mut self.store,
+            &mut report,
+            arrivals.as_slice(),
+            ends.as_slice(),
+            batch.into_runs(),
+        );
+        Ok(report)
     }
 
     /// Makes every entry blank, in a table that stays. It takes no memory.

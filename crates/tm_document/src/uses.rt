@@ -130,8 +130,10 @@ pub fn use_runs(
     for run in runs {
         let items = run.items.into_vec();
         let n = items.len();
-        use_items(store, report, &left[..n], &left_ends[..n], items);
-        left = &left[n..];
-        left_ends = &left_ends[n..];
+        let (here, later) = left.split_at(n);
+        let (ends_here, ends_later) = left_ends.split_at(n);
+        use_items(store, report, here, ends_here, items);
+        left = later;
+        left_ends = ends_later;
     }
 }

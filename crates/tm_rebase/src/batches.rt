@@ -1,6 +1,7 @@
 //! What the worker posts.
 ghost use Rattle.std.specs.Prelude.{◌≡◌, map};
 
+use std::alloc::Global;
 use std::marker::Model;
 use std::sync::Arc;
 use tm_defs::frames::{Delta, StateData};
@@ -114,6 +115,11 @@ impl Batch {
         ensures { result.now ≡ self.now.runs }
     {
         self.runs.as_slice()
+    }
+
+    /// Where the batch has taken its memory.
+    pub fn allocator(&self) -> Global {
+        *self.runs.allocator()
     }
 
     /// The runs themselves. It takes no memory.

@@ -5,7 +5,7 @@ use Rattle.tm_defs.specs.declared.frames.StateId.{StateId}
 use Rattle.tm_document.specs.declared.accepting.Ends.{Ends}
 use Rattle.tm_document.specs.Batched.{ends_behind, entries_of_states, states_of_runs}
 use Rattle.tm_document.specs.inner.There.{AreEnds, ends_from, read_ends}
-use Rattle.tm_document.proofs.Numbering.{first-among, frames-next, among-next, known-next, ends-next, end-there, there-next, delta-full, kept-then}
+use Rattle.tm_document.proofs.Numbering.{first-among, frames-next, among-next, known-next, ends-next, end-there, there-next, behind-end, delta-full, kept-then}
 use Rattle.tm_document.proofs.numbers.number_items.Goals as goal
 
 pub returns-in-Err-TableFull-clause-grows : goal.returns-in-Err-TableFull-clause-grows
@@ -14,7 +14,9 @@ returns-in-Err-TableFull-clause-grows c = tables-trans _ _ _ _ _ (first-among c.
 pub returns-in-Err-TableFull-clause-full : goal.returns-in-Err-TableFull-clause-full
 returns-in-Err-TableFull-clause-full c =
     let f = rw c.in-Err-TableFull.field-0-is at c.in-Err-TableFull.ensures.fault in
-    delta-full c.args.limit c.loop-item.table.limit (state_at c.loop-item.table c.loop-item.at) _ c.apply.new.self _ _ (omega (arith, c.requires.limit, c.loop-item.invariant.grows.limit)) (first-among c.loop-item.table c.apply.new.self c.loop-item.at c.loop-item.at c.args.items.now c.loop-item.item-index c.item-item.result _ (omega arith) c.item-item.is _ c.loop-item.invariant.among) f
+    let h = delta-full c.args.limit c.loop-item.table.limit (state_at c.loop-item.table c.loop-item.at) _ c.apply.new.self _ _ (omega (arith, c.requires.limit, c.loop-item.invariant.grows.limit)) (first-among c.loop-item.table c.apply.new.self c.loop-item.at c.loop-item.at c.args.items.now c.loop-item.item-index c.item-item.result _ (omega arith) c.item-item.is _ c.loop-item.invariant.among) f in
+    let same = c.in-Err-TableFull.count-is in
+    (let first = h.0 in cc, h.1)
 
 pub returns-in-Err-OutOfMemory-clause-grows : goal.returns-in-Err-OutOfMemory-clause-grows
 returns-in-Err-OutOfMemory-clause-grows c = tables-trans _ _ _ _ _ (first-among c.loop-item.table c.apply.new.self c.loop-item.at c.loop-item.at c.args.items.now c.loop-item.item-index c.item-item.result _ (omega arith) c.item-item.is _ c.loop-item.invariant.among) c.loop-item.invariant.grows c.apply.ensures.grows
@@ -48,4 +50,4 @@ loop-item-preserved c =
 
 pub returns-clause-there : goal.returns-clause-there
 returns-clause-there c =
-    c.loop-item.invariant.there c.loop-item.table.states (λ s h. h) (search rules)
+    c.loop-item.invariant.there c.loop-item.table.states (λ s h. h) (behind-end _ (state_at c.loop-item.table c.loop-item.at) c.args.items.now c.loop-item.item-index (omega arith))

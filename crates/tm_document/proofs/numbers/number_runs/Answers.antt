@@ -5,7 +5,7 @@ use Rattle.tm_defs.specs.declared.frames.StateId.{StateId}
 use Rattle.tm_document.specs.declared.accepting.Ends.{Ends}
 use Rattle.tm_document.specs.Batched.{ends_behind, entries_of_states, states_of_runs}
 use Rattle.tm_document.specs.inner.There.{AreEnds, ends_from, read_ends}
-use Rattle.tm_document.proofs.Numbering.{items-among, runs-among, run-frames, put-known, runs-read, runs-there, put-full, kept-then, run-start-among}
+use Rattle.tm_document.proofs.Numbering.{items-among, runs-among, run-frames, put-known, runs-read, runs-there, runs-end, put-full, kept-then, run-start-among}
 use Rattle.tm_scope.proofs.Limits.{full-among, limits-trans}
 use Rattle.std.proofs.lemmas.Option.{slice_get_within}
 use Rattle.tm_document.proofs.numbers.number_runs.Goals as goal
@@ -50,4 +50,4 @@ loop-run-preserved c =
     }
 
 pub returns-clause-there : goal.returns-clause-there
-returns-clause-there c = c.loop-run.invariant.there c.loop-run.table.states (λ s h. h) (search rules)
+returns-clause-there c = c.loop-run.invariant.there c.loop-run.table.states (λ s h. h) (runs-end _ c.args.runs.now c.loop-run.run-index (omega arith))
