@@ -4,7 +4,7 @@ use Rattle.std.specs.Prelude.{◌&&◌}
 use Rattle.std.proofs.Math.ListN.{drop_of_length-le}
 use Rattle.tm_onig_class.specs.declared.patterns.Pattern.{Pattern}
 use Rattle.tm_onig_class.specs.Tree.{Tree, tree_of, trees}
-use Rattle.tm_onig_vm.proofs.Parts.{parts_at, no_parts}
+use Rattle.tm_onig_search.proofs.Parts.{parts_at, no_parts}
 use Rattle.tm_onig_scan.specs.Steady.{is_steady, are_steady, steady_if, all_steady}
 use Rattle.tm_onig_scan.specs.Winner.{trees_of, pattern_at, patterns_at}
 use Rattle.tm_onig_scan.proofs.Tried.{tree_step, length_trees}

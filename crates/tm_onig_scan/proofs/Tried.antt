@@ -1,6 +1,6 @@
 -- The first match of one pass is the winner, and the pass costs no more than the searches one after another.
 use Rattle.std.proofs.Common.{◌≡◌, ℕ, zero, suc, ◌+◌, ◌-◌, ◌<◌, ◌≤◌, Bool, true, false, List, [], ◌∷◌, length, Some, None, Option, refl, ap, sym, ◌∙◌, arith, nat_lt, subst, get_or, drop}
-use Rattle.std.specs.Prelude.{slice_get, MatchOption, option_map, Result, Ok, Err}
+use Rattle.std.specs.Prelude.{slice_get, MatchOption, option_map, Result, Ok, Err, IfOk, IsErrOf}
 use Rattle.std.proofs.lemmas.Result.{IfOk-weaker}
 use Rattle.std.proofs.Math.ListN.{drop_of_length-le}
 use Rattle.std.proofs.lemmas.Option.{none-some}
@@ -13,6 +13,7 @@ use Rattle.tm_onig_search.specs.Find.{Search, found_or, at_start, first_of, hit_
 use Rattle.tm_onig_scan.specs.Winner.{trees_of, pattern_at, scan_cost, earliest_winner}
 use Rattle.tm_onig_scan.specs.WinnerLaws.{IsWinner}
 use Rattle.tm_onig_vm.specs.declared.fault.FindFault.{FindFault}
+use Rattle.tm_onig_vm.specs.declared.fault.FindFault.TheVariants as find
 use Rattle.tm_onig_scan.specs.Pass.{Pass, Tries, pass_or, pass_or_at, pass_one, pass_here, pass_row, pass_from}
 use Rattle.tm_onig_scan.proofs.Earliest.{earliest}
 use Rattle.tm_onig_scan.proofs.Only.{only}
@@ -66,6 +67,12 @@ module _ (all one later : Pass) (before now after : ℕ) (was : IsPassing all (p
 
   pub tries_won : (o : Option (ℕ × Caps)) (w : ℕ × Caps) → o ≡ Some w → Tries one now after (Ok o) → Tries all before after (Ok (Some w))
   tries_won o w some t = record { hit = passing_won w (sym some ∙ t.hit); over = λ is. absurd cc; falls = passing_falls t.falls }
+
+  -- the winner is told with its groups, or memory is wanting
+  pub tries_told : (o : Option (ℕ × Caps)) (w : ℕ × Caps) → o ≡ Some w → Tries one now after (Ok o) → (r : Result (Option (ℕ × Caps)) FindFault) → IfOk r (λ found. found ≡ Some w) → (IsErrOf r find.Budget → ⊥) →
+      Tries all before after r
+  tries_told o w some t r told memory =
+      let won = tries_won o w some t in record { hit = IfOk-weaker r _ _ (λ found same. same ∙ won.hit) told; over = λ over. absurd (memory over); falls = won.falls }
 
   pub tries_fails : (e : FindFault) → Tries one now after (Err e) → Tries all before after (Err e)
   tries_fails e t = record { hit = tt; over = λ is. passing_over (t.over is); falls = passing_falls t.falls }

@@ -1,11 +1,12 @@
 -- One pass over the starts: at each start the patterns of the list in their order, up to the first match.
-use Rattle.std.specs.Prelude.{◌≡◌, ℕ, zero, suc, ◌+◌, ◌<◌, ◌≤◌, length, List, [], ◌∷◌, Option, Some, None, Result, IfOk, IsErrOf, option_map, slice_get}
+use Rattle.std.specs.Prelude.{◌≡◌, ℕ, zero, suc, ◌+◌, ◌<◌, ◌≤◌, length, List, [], ◌∷◌, Option, Some, None, Result, Ok, Err, IfOk, IsErrOf, option_map, slice_get}
 use Rattle.tm_onig_class.specs.Tree.{Tree}
 use Rattle.tm_onig_search.specs.Outcomes.{Caps}
 use Rattle.tm_onig_search.specs.Places.{Subject}
 use Rattle.tm_onig_search.specs.Find.{at_start, with_whole}
 use Rattle.tm_onig_search.specs.Starts.{Sits}
 use Rattle.tm_onig_vm.specs.First.{next_class}
+use Rattle.tm_onig_vm.specs.Found.{groups_found}
 use Rattle.tm_onig_vm.specs.declared.fault.FindFault.{FindFault}
 use Rattle.tm_onig_vm.specs.declared.fault.FindFault.TheVariants as find
 use Rattle.tm_onig_scan.specs.Winner.{pattern_at}
@@ -54,6 +55,15 @@ module _ (s : Subject) where
   unfoldable pub pass_from : ℕ → ℕ → List (Option Tree) → Pass
   pass_from zero start ps = no_pass
   pass_from (suc n) start ps = pass_or (pass_here start 0 ps) (pass_from n (start + 1) ps)
+
+-- what was found at a start, number and end, with the groups that are set
+abbrev pub with_groups : Caps → ℕ → ℕ × ℕ → ℕ × Caps
+with_groups groups start won = (won.0, groups_found groups start won.1)
+
+-- what was answered at a start, with the groups that are set
+abbrev pub answer_in : Caps → ℕ → Result (Option (ℕ × ℕ)) FindFault → Result (Option (ℕ × Caps)) FindFault
+answer_in groups start (Ok found) = Ok (option_map (with_groups groups start) found)
+answer_in groups start (Err fault) = Err fault
 
 -- what a pass answers, and what it takes of the budget
 pub record Tries (pass : Pass) (before after : ℕ) (result : Result (Option (ℕ × Caps)) FindFault) : Type 0 where

@@ -1,10 +1,10 @@
 //! One pass over the starts of a text: at each start the patterns of a list are tried in their order, and the
 //! first match wins.
 ghost use Rattle.std.specs.Option.{option_copied};
-ghost use Rattle.std.specs.Prelude.{◌≡◌, ◌+◌, ◌<◌, ◌≤◌, ◌^◌, ◌-◌, length, option_map, take, drop, IfSome};
+ghost use Rattle.std.specs.Prelude.{◌≡◌, ◌+◌, ◌<◌, ◌≤◌, ◌^◌, ◌-◌, ¬◌, Some, length, option_map, take, drop, IfOk, IfSome, IsErrOf};
 ghost use Rattle.tm_onig_class.specs.Tree.{tree_of};
 ghost use Rattle.tm_onig_scan.specs.Asked.{asked_subject, put_in, searched_in, subject_in, trees_in};
-ghost use Rattle.tm_onig_scan.specs.Pass.{IsAt, Tries, pass_around, pass_from, pass_here, pass_one, pass_row};
+ghost use Rattle.tm_onig_scan.specs.Pass.{IsAt, Tries, answer_in, with_groups, pass_around, pass_from, pass_here, pass_one, pass_row};
 ghost use Rattle.tm_onig_scan.specs.Rows.{AreCandidates, places_before, places_from, places_without};
 ghost use Rattle.tm_onig_scan.specs.Winner.{patterns_at};
 
@@ -14,7 +14,7 @@ use crate::programs::{program_at, program_of_place};
 use std::alloc::Global;
 use tm_defs::caps::Caps;
 use tm_onig_vm::fault::FindFault;
-use tm_onig_vm::program::{Prog, Room, attempt};
+use tm_onig_vm::program::{Prog, Room, attempt, groups_of};
 use tm_onig_vm::starts::{class_of, known_behind};
 
 /// What a pass reads: the patterns by number, and what is searched.
@@ -46,7 +46,7 @@ fn at_start(asked: Asked, start: usize) -> At
     }
 }
 
-/// The match of a pattern that starts here, with the pattern's number.
+/// Where the match of a pattern ends that starts here, with the pattern's number. The room has its groups.
 fn attempt_one(
     job: &Job,
     number: u32,
@@ -54,10 +54,10 @@ fn attempt_one(
     start: usize,
     room: &mut Room,
     budget: &mut u64,
-) -> Result<Option<(u32, Caps)>, FindFault>
+) -> Result<Option<(u32, u32)>, FindFault>
     requires small { length job.now.asked.text.now < 2 ^ 31 }
     requires within { start ≤ length job.now.asked.text.now }
-    ensures { Tries (pass_one (subject_in job.now) start number (option_map tree_of (option_copied program.entry))) budget.old budget.new result }
+    ensures { Tries (pass_one (subject_in job.now) start number (option_map tree_of (option_copied program.entry))) budget.old budget.new (answer_in room.new.groups.items start result) }
 {
     let Some(program) = program else {
         return Ok(None);
@@ -72,7 +72,7 @@ fn attempt_one(
         budget,
     ) {
         Ok(None) => Ok(None),
-        Ok(Some(caps)) => Ok(Some((number, caps))),
+        Ok(Some(end)) => Ok(Some((number, end))),
         Err(fault) => Err(fault),
     }
 }
@@ -85,10 +85,10 @@ fn try_one(
     at: At,
     room: &mut Room,
     budget: &mut u64,
-) -> Result<Option<(u32, Caps)>, FindFault>
+) -> Result<Option<(u32, u32)>, FindFault>
     requires small { length job.now.asked.text.now < 2 ^ 31 }
     requires at { IsAt (subject_in job.now) at }
-    ensures { Tries (pass_one (subject_in job.now) at.start number (option_map tree_of (option_copied program.entry))) budget.old budget.new result }
+    ensures { Tries (pass_one (subject_in job.now) at.start number (option_map tree_of (option_copied program.entry))) budget.old budget.new (answer_in room.new.groups.items at.start result) }
 {
     match program {
         None => Ok(None),
@@ -108,11 +108,11 @@ fn try_all(
     at: At,
     room: &mut Room,
     budget: &mut u64,
-) -> Result<Option<(u32, Caps)>, FindFault>
+) -> Result<Option<(u32, u32)>, FindFault>
     requires few { length job.now.programs.now < 2 ^ 32 }
     requires small { length job.now.asked.text.now < 2 ^ 31 }
     requires at { IsAt (subject_in job.now) at }
-    ensures { Tries (pass_here (subject_in job.now) at.start 0 (trees_in job.now)) budget.old budget.new result }
+    ensures { Tries (pass_here (subject_in job.now) at.start 0 (trees_in job.now)) budget.old budget.new (answer_in room.new.groups.items at.start result) }
 {
     for number in 0..job.programs.len() {
         let program = program_at(job.programs, number as u32);
@@ -133,10 +133,10 @@ fn try_row(
     start: usize,
     room: &mut Room,
     budget: &mut u64,
-) -> Result<Option<(u32, Caps)>, FindFault>
+) -> Result<Option<(u32, u32)>, FindFault>
     requires small { length job.now.asked.text.now < 2 ^ 31 }
     requires within { start ≤ length job.now.asked.text.now }
-    ensures { Tries (pass_row (subject_in job.now) start (patterns_at (trees_in job.now) numbers.now) row.now) budget.old budget.new result }
+    ensures { Tries (pass_row (subject_in job.now) start (patterns_at (trees_in job.now) numbers.now) row.now) budget.old budget.new (answer_in room.new.groups.items start result) }
 {
     for at in 0..row.len() {
         let place = row[at];
@@ -184,10 +184,10 @@ fn try_around(
     row: &[u32],
     room: &mut Room,
     budget: &mut u64,
-) -> Result<Option<(u32, Caps)>, FindFault>
+) -> Result<Option<(u32, u32)>, FindFault>
     requires small { length job.now.asked.text.now < 2 ^ 31 }
     requires at { IsAt (subject_in job.now) at }
-    ensures { Tries (pass_around (subject_in job.now) at.start (patterns_at (trees_in job.now) numbers.now) instead.entry.place (option_map tree_of (option_copied instead.entry.program)) row.now) budget.old budget.new result }
+    ensures { Tries (pass_around (subject_in job.now) at.start (patterns_at (trees_in job.now) numbers.now) instead.entry.place (option_map tree_of (option_copied instead.entry.program)) row.now) budget.old budget.new (answer_in room.new.groups.items at.start result) }
 {
     let count = count_before(row, instead.place);
     let (before, later) = row.split_at(count);
@@ -220,12 +220,12 @@ fn try_candidates(
     at: At,
     room: &mut Room,
     budget: &mut u64,
-) -> Result<Option<(u32, Caps)>, FindFault>
+) -> Result<Option<(u32, u32)>, FindFault>
     requires candidates { AreCandidates (trees_in job.now) candidates.now }
     requires small { length job.now.asked.text.now < 2 ^ 31 }
     requires at { IsAt (subject_in job.now) at }
     ensures { let patterns = put_in (patterns_at (trees_in job.now) candidates.now.numbers.items) instead.entry in
-        Tries (pass_here (subject_in job.now) at.start 0 patterns) budget.old budget.new result }
+        Tries (pass_here (subject_in job.now) at.start 0 patterns) budget.old budget.new (answer_in room.new.groups.items at.start result) }
 {
     let row = row_of(candidates, at.behind, at.class);
     match instead {
@@ -250,17 +250,34 @@ fn try_listed(
     at: At,
     room: &mut Room,
     budget: &mut u64,
-) -> Result<Option<(u32, Caps)>, FindFault>
+) -> Result<Option<(u32, u32)>, FindFault>
     requires few { length job.now.programs.now < 2 ^ 32 }
     requires candidates { IfSome (option_copied list) (λ them. AreCandidates (trees_in job.now) them) }
     requires small { length job.now.asked.text.now < 2 ^ 31 }
     requires at { IsAt (subject_in job.now) at }
     ensures { let patterns = searched_in (trees_in job.now) (option_copied list.entry) instead.entry in
-        Tries (pass_here (subject_in job.now) at.start 0 patterns) budget.old budget.new result }
+        Tries (pass_here (subject_in job.now) at.start 0 patterns) budget.old budget.new (answer_in room.new.groups.items at.start result) }
 {
     match list {
         None => try_all(job, at, room, budget),
         Some(candidates) => try_candidates(job, candidates, instead, at, room, budget),
+    }
+}
+
+/// What was found at a start, with its groups, which the room has.
+fn with_groups(
+    alloc: Global,
+    room: &Room,
+    start: usize,
+    won: (u32, u32),
+) -> Result<Option<(u32, Caps)>, FindFault>
+    requires { start < 2 ^ 31 }
+    ensures won { IfOk result (λ found. found ≡ Some (with_groups room.now.groups.items start won)) }
+    ensures memory { ¬ IsErrOf result FindFault.Budget }
+{
+    match groups_of(alloc, room, start as u32, won.1) {
+        Ok(caps) => Ok(Some((won.0, caps))),
+        Err(_) => Err(FindFault::OutOfMemory),
     }
 }
 
@@ -283,7 +300,7 @@ pub(crate) fn pass(
         let at = at_start(job.asked, start);
         match try_listed(job, list, instead, at, room, budget) {
             Ok(None) => {}
-            Ok(Some(won)) => return Ok(Some(won)),
+            Ok(Some(won)) => return with_groups(job.alloc, room, start, won),
             Err(fault) => return Err(fault),
         }
     }

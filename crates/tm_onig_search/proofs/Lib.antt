@@ -7,3 +7,5 @@ pub mod Ends
 pub mod Local
 pub mod Least
 pub mod Starts
+pub mod Parts
+pub mod Near

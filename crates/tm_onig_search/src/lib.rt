@@ -1,6 +1,7 @@
 //! What a search for a pattern finds, and what it costs: definitions, and the laws that others rest on.
 //!
-//! Nothing here runs. The functions state laws. `search_rows` is the table of cases, so that a reader
+//! But for `widths`, which counts what a pattern can match at least and at most, nothing here runs: the functions
+//! state laws. `search_rows` is the table of cases, so that a reader
 //! who believes the table need not read how the search is defined; `least_start` says in other words
 //! what the first match is.
 #![tactic(auto)]
@@ -14,6 +15,8 @@ ghost use Rattle.tm_onig_search.specs.Rows.{SearchRows};
 ghost use Rattle.tm_onig_search.specs.Search.{at_goal, search_tree};
 ghost use Rattle.tm_onig_search.specs.Widths.{HasWidth};
 ghost use Rattle.tm_onig_search.specs.Find.{first_match, hit_at, IsLeast, AreWithin};
+
+pub mod widths;
 
 /// Law: what a search of a list of goals does, by its first goal. Each case entered costs 1.
 pub fn search_rows()

@@ -5,7 +5,7 @@ use Rattle.std.proofs.lemmas.Bool.Decides.{nat_tests}
 use Rattle.tm_onig_search.specs.Outcomes.{Outcome, fail, or_else}
 use Rattle.tm_onig_search.specs.Search.{nearest, width_or, look_back}
 use Rattle.tm_onig_search.proofs.Outcomes.{or_else-fail_right}
-use Rattle.tm_onig_vm.specs.inner.Near.{near}
+use Rattle.tm_onig_search.specs.Near.{near}
 
 -- n starts from the lowest on were taken up, the last to be tried first
 unfoldable pub tried : (ℕ → Outcome) → ℕ → ℕ → Outcome

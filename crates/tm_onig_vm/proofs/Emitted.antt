@@ -9,13 +9,13 @@ use Rattle.tm_onig_vm.specs.declared.code.Instr.{Instr}
 use Rattle.tm_onig_vm.specs.declared.code.Instr.TheVariants as I
 use Rattle.std.specs.Prelude.{option_map}
 use Rattle.tm_onig_search.specs.Widths.{least_width, greatest_width}
-use Rattle.tm_onig_vm.specs.inner.Near.{near}
+use Rattle.tm_onig_search.specs.Near.{near}
 use Rattle.tm_onig_vm.specs.inner.Size.{code_size, code_sizes}
 use Rattle.tm_onig_vm.specs.declared.singles.Single.{Single}
 use Rattle.tm_onig_vm.specs.declared.singles.Single.TheVariants as S
 use Rattle.tm_onig_vm.specs.inner.Single.{is_single, is_span, single_tree, fits}
 use Rattle.tm_onig_vm.proofs.Rounds.{single_is}
-use Rattle.tm_onig_vm.specs.inner.Code.{Code, AheadCode, BehindCode, RowCode, AnyCode, Grows, Adds}
+use Rattle.tm_onig_vm.specs.inner.Code.{loop_of, Code, AheadCode, BehindCode, RowCode, AnyCode, Grows, Adds}
 
 get_push_old : (xs : List Instr) (y x : Instr) (i : ℕ) → slice_get xs i ≡ Some x → slice_get (xs ++ y ∷ []) i ≡ Some x
 get_push_old [] y x i e = absurd (none-some x e)
@@ -89,9 +89,9 @@ module _ (a b : List Instr) (more : Extends a b) where
     code_extends (Repeat t least greatest greedy) pc next (inr here) = inr (
       here.0,
       here.1,
-      more pc (I.Loop here.0 least greatest greedy next) here.2 (λ e. cc),
+      more pc (I.Loop (loop_of here.0 least greatest greedy next)) here.2 (λ e. cc),
       code_extends t here.0 here.1 here.3,
-      more here.1 (I.Again here.0 least greatest greedy next) here.4 (λ e. cc),
+      more here.1 (I.Again (loop_of here.0 least greatest greedy next)) here.4 (λ e. cc),
     )
     code_extends (Look t true negative) pc next (inl here) = inl (here.0, here.1, more pc (I.Peek here.0 true negative next) here.2 (λ e. cc))
     code_extends (Look t true negative) pc next (inr here) =
@@ -220,36 +220,36 @@ look_behind_done old new t negative pc next long made = (made.0, inr made.1, rw 
 -- a hole, the body, the hole filled, and the loop
 module _ (old code1 code2 code3 new : List Instr) (t : Tree) (least : ℕ) (greatest : Option ℕ) (greedy : Bool) (first last pc next : ℕ)
     (hole : code1 ≡ old ++ I.Hole ∷ []) (at_hole : last ≡ length old) (grows : Grows code1 code2) (body : Code code2 t first last) (adds : Adds code1 code2 (code_size t))
-    (filled : code3 ≡ slice_set code2 last (I.Again first least greatest greedy next)) (pushed : new ≡ code3 ++ I.Loop first least greatest greedy next ∷ []) (at : pc ≡ length code3) where
+    (filled : code3 ≡ slice_set code2 last (I.Again (loop_of first least greatest greedy next))) (pushed : new ≡ code3 ++ I.Loop (loop_of first least greatest greedy next) ∷ []) (at : pc ≡ length code3) where
   hole_is : slice_get code2 last ≡ Some I.Hole
   hole_is = grows last I.Hole (at_push old code1 I.Hole last hole at_hole)
 
   more3 : Extends code2 code3
-  more3 = rw filled (extends_patch code2 last (I.Again first least greatest greedy next) hole_is)
+  more3 = rw filled (extends_patch code2 last (I.Again (loop_of first least greatest greedy next)) hole_is)
 
   grows3 : Grows old code3
   grows3 i x e =
       let inside : i < length old = slice_get_within old i x e in
       let apart : last ≡ i → ⊥ = λ same. omega arith in
-      rw filled (get_set_other code2 last i (I.Again first least greatest greedy next) apart ∙ grows i x (grows_push old code1 I.Hole hole i x e))
+      rw filled (get_set_other code2 last i (I.Again (loop_of first least greatest greedy next)) apart ∙ grows i x (grows_push old code1 I.Hole hole i x e))
 
   adds4 : Adds old new (code_size t + 2)
   adds4 =
       let one : Adds old code1 1 = adds_push old code1 I.Hole hole in
-      let same : length code3 ≡ length code2 = rw filled (length_set code2 last (I.Again first least greatest greedy next)) in
-      let two : Adds code3 new 1 = adds_push code3 new (I.Loop first least greatest greedy next) pushed in omega arith
+      let same : length code3 ≡ length code2 = rw filled (length_set code2 last (I.Again (loop_of first least greatest greedy next))) in
+      let two : Adds code3 new 1 = adds_push code3 new (I.Loop (loop_of first least greatest greedy next)) pushed in omega arith
 
   pub repeat_done : is_span t least greatest greedy ≡ false → Grows old new × Code new (Repeat t least greatest greedy) pc next × Adds old new (code_size (Repeat t least greatest greedy))
   repeat_done round_by_round =
-      let on = grows_push code3 new (I.Loop first least greatest greedy next) pushed in
+      let on = grows_push code3 new (I.Loop (loop_of first least greatest greedy next)) pushed in
       let more4 : Extends code3 new = λ j x e made. on j x e in (
         grows_trans old code3 new grows3 on,
         inr (
           first,
           last,
-          at_push code3 new (I.Loop first least greatest greedy next) pc pushed at,
+          at_push code3 new (I.Loop (loop_of first least greatest greedy next)) pc pushed at,
           code_extends code3 new more4 t first last (code_extends code2 code3 more3 t first last body),
-          on last (I.Again first least greatest greedy next) (rw filled (get_set_same code2 last I.Hole (I.Again first least greatest greedy next) hole_is)),
+          on last (I.Again (loop_of first least greatest greedy next)) (rw filled (get_set_same code2 last I.Hole (I.Again (loop_of first least greatest greedy next)) hole_is)),
         ),
         rw round_by_round adds4,
       )

@@ -13,7 +13,7 @@ use Rattle.tm_onig_vm.specs.declared.first.First.{First}
 use Rattle.tm_onig_vm.specs.declared.first.Firsts.{Firsts}
 use Rattle.tm_onig_vm.specs.First.{in_first, in_class, next_class, may_follow, may_follow_first, AreFirst, AreFirsts}
 use Rattle.tm_onig_vm.proofs.Ascii.{ascii_word, ascii_other}
-use Rattle.tm_onig_vm.proofs.Parts.{parts_at, no_parts}
+use Rattle.tm_onig_search.proofs.Parts.{parts_at, no_parts}
 
 one_of : (p q : ℕ) → p < 2 → q < 2 → (max p q == 1) ≡ ((p == 1) || (q == 1))
 one_of zero zero a b = refl

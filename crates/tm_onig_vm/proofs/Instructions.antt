@@ -16,13 +16,13 @@ use Rattle.tm_onig_search.proofs.Reading.{begins_within}
 use Rattle.tm_onig_search.proofs.Ends.{EndsFrom, accept_ends, tree_ends}
 use Rattle.tm_onig_search.proofs.Hits.{cond_hit, fail_hit}
 use Rattle.tm_onig_search.proofs.Within.{behind_hit}
-use Rattle.tm_onig_vm.specs.inner.Near.{near}
+use Rattle.tm_onig_search.specs.Near.{near}
 use Rattle.tm_onig_vm.specs.declared.singles.Single.{Single}
 use Rattle.tm_onig_vm.specs.inner.Single.{single_tree, single_has, fits, run_of, most_of}
 use Rattle.tm_onig_vm.proofs.Behind.{tried, back_some, back_none}
 use Rattle.tm_onig_vm.proofs.Costs.{cost_same, tick-spend}
 use Rattle.tm_onig_vm.proofs.Rounds.{passes_within, run_within, single_searches, single_least, single_greatest, span_is}
-use Rattle.tm_onig_vm.specs.inner.Code.{Code, RowCode, AnyCode}
+use Rattle.tm_onig_vm.specs.inner.Code.{loop_of, Code, RowCode, AnyCode}
 use Rattle.tm_onig_vm.specs.inner.Machine.{Frame, Do, CloseOf, AgainOf, ArriveOf, Thread, at_pc, Goes, Stands, turn_of, from_each, span_of, peek_of, cost_behind, behind_of, goes_if, read_of, exec, frames_rest, Means, AllMean, WaitsFor, ActsFor, resumed}
 
 -- a body that has to end at a position ends there
@@ -161,7 +161,7 @@ module _ (s : Subject) (code : List Instr) where
   }
 
   turn_left : (t : Tree) (first last least : ℕ) (greatest : Option ℕ) (greedy : Bool) (next count : ℕ) (fs : List Frame) (numbers : List ℕ) (pos : ℕ) (caps : Caps) →
-      Code code t first last → slice_get code last ≡ Some (I.Again first least greatest greedy next) → Stands code fs next → pos ≤ length s.line →
+      Code code t first last → slice_get code last ≡ Some (I.Again (loop_of first least greatest greedy next)) → Stands code fs next → pos ≤ length s.line →
       (rest : Outcome) × AllMean s code (turn_of first least greatest greedy next count numbers pos caps) rest
       × (loop s (search_tree s t) least greatest greedy (frames_rest s fs numbers) count pos caps ≡ tick rest)
   turn_left t first last least greatest greedy next count fs numbers pos caps body back stands fits =
@@ -170,7 +170,7 @@ module _ (s : Subject) (code : List Instr) where
       (left.0, left.1, loop_step s (search_tree s t) least greatest greedy (tree_local s t) (frames_rest s fs numbers) count pos caps fits ∙ ap tick left.2)
 
   again_left : (t : Tree) (first last least : ℕ) (greatest : Option ℕ) (greedy : Bool) (next count : ℕ) (fs : List Frame) (numbers : List ℕ) (pos : ℕ) (caps : Caps) →
-      Code code t first last → slice_get code last ≡ Some (I.Again first least greatest greedy next) → Stands code fs next → pos ≤ length s.line → (empty : Bool) →
+      Code code t first last → slice_get code last ≡ Some (I.Again (loop_of first least greatest greedy next)) → Stands code fs next → pos ≤ length s.line → (empty : Bool) →
       ActsFor s code (cond empty (Goes 1 (at_pc next numbers pos caps ∷ [])) (Goes 2 (turn_of first least greatest greedy next count numbers pos caps))) pos caps
       (tick (cond empty (frames_rest s fs numbers pos caps) (loop s (search_tree s t) least greatest greedy (frames_rest s fs numbers) count pos caps)))
   again_left t first last least greatest greedy next count fs numbers pos caps body back stands fits true =
@@ -327,7 +327,7 @@ module _ (s : Subject) (code : List Instr) where
             (I.Span here.0 least greatest stands.0, here.4, rw (here.1, here.2) (span_left here.0 least greatest stands.0 fs numbers pos caps here.3 stands.2 fits))
         | inr here ↦
             let left = turn_left t here.0 here.1 least greatest greedy stands.0 0 fs numbers pos caps here.3 here.4 stands.2 fits in
-            (I.Loop here.0 least greatest greedy stands.0, here.2, (left.0, left.1, left.2 ∙ tick-spend left.0))
+            (I.Loop (loop_of here.0 least greatest greedy stands.0), here.2, (left.0, left.1, left.2 ∙ tick-spend left.0))
       ]
   step (Do (Look t true false) ∷ fs) pc numbers pos caps small stands fits =
       elim stands.1 [
@@ -366,11 +366,11 @@ module _ (s : Subject) (code : List Instr) where
       let o = frames_rest s fs numbers pos (slice_set caps number (Some (start, pos))) in
       (I.Close number stands.0, stands.1, (o, one_left fs stands.0 numbers pos (slice_set caps number (Some (start, pos))) stands.2 fits, tick-spend o))
   step (AgainOf t least greatest greedy ∷ fs) pc [] pos caps small stands fits =
-      (I.Again stands.0 least greatest greedy stands.1, stands.2, (fail, refl, tick-spend fail))
+      (I.Again (loop_of stands.0 least greatest greedy stands.1), stands.2, (fail, refl, tick-spend fail))
   step (AgainOf t least greatest greedy ∷ fs) pc (start ∷ []) pos caps small stands fits =
-      (I.Again stands.0 least greatest greedy stands.1, stands.2, (fail, refl, tick-spend fail))
+      (I.Again (loop_of stands.0 least greatest greedy stands.1), stands.2, (fail, refl, tick-spend fail))
   step (AgainOf t least greatest greedy ∷ fs) pc (start ∷ count ∷ numbers) pos caps small stands fits = (
-    I.Again stands.0 least greatest greedy stands.1,
+    I.Again (loop_of stands.0 least greatest greedy stands.1),
     stands.2,
     again_left t stands.0 pc least greatest greedy stands.1 count fs numbers pos caps stands.3 stands.2 stands.4 fits (pos == start),
   )

@@ -1,8 +1,6 @@
 pub mod Texts
-pub mod Parts
 pub mod Behind
 pub mod Sought
-pub mod Near
 pub mod Costs
 pub mod Emitted
 pub mod Instructions

@@ -1,5 +1,4 @@
 pub mod Anchors
-pub mod Near
 pub mod Size
 pub mod Single
 pub mod Code

@@ -12,16 +12,27 @@
 //! 4 One a, then 3     9 Step, then 8, where the search begins
 //! ```
 ghost use Rattle.std.specs.Prelude.{◌≡◌, ℕ, ◌+◌, [], ◌∷◌, ◌++◌, length, map, IfOk, slice_set};
-ghost use Rattle.tm_onig_class.specs.Tree.{tree_of, trees};
+ghost use Rattle.tm_onig_class.specs.Tree.{Group, Repeat, Look, tree_of, trees};
 ghost use Rattle.tm_onig_vm.specs.inner.Code.{Code, AheadCode, BehindCode, RowCode, AnyCode, Grows, Adds};
 ghost use Rattle.tm_onig_vm.specs.inner.Size.{code_size, code_sizes};
 
 use crate::singles::{Single, single_of, span_of};
-use crate::widths;
 use sqlite_items::Items;
 use std::alloc::Global;
 use tm_defs::memory::OutOfMemory;
 use tm_onig_class::patterns::{Pattern, Position};
+use tm_onig_search::widths;
+
+/// A loop: where a round begins, how many of them are made, as many as can be first if it is `greedy`, and where
+/// the search goes on behind them.
+#[derive(Clone, Copy)]
+pub struct Rounds {
+    pub body: u32,
+    pub least: u32,
+    pub greatest: Option<u32>,
+    pub greedy: bool,
+    pub next: u32,
+}
 
 /// One case of the search. `next` is the place where it goes on.
 #[derive(Drop)]
@@ -63,21 +74,9 @@ pub enum Instr {
         number: u32,
         next: u32,
     },
-    Loop {
-        body: u32,
-        least: u32,
-        greatest: Option<u32>,
-        greedy: bool,
-        next: u32,
-    },
+    Loop(Rounds),
     /// The end of a loop's round.
-    Again {
-        body: u32,
-        least: u32,
-        greatest: Option<u32>,
-        greedy: bool,
-        next: u32,
-    },
+    Again(Rounds),
     Read {
         groups: Items<u32>,
         fold: bool,
@@ -161,80 +160,19 @@ pub(crate) fn emit(
                 },
             )
         }
-        Pattern::Group { number, body } => {
-            let last = push(
-                code,
-                Instr::Close {
-                    number: *number,
-                    next,
-                },
-            )?;
-            let first = emit(alloc, code, body, last)?;
-            push(code, Instr::Open { next: first })
-        }
+        Pattern::Group { number, body } => emit_group(alloc, code, *number, body, next),
         Pattern::Atomic(body) => emit_ahead(alloc, code, body, false, false, next),
         Pattern::Repeat {
             body,
             least,
             greatest,
             greedy,
-        } => {
-            if let Some(one) = span_of(body, *least, *greatest, *greedy)? {
-                return push(
-                    code,
-                    Instr::Span {
-                        one,
-                        least: *least,
-                        greatest: *greatest,
-                        next,
-                    },
-                );
-            }
-            let last = push(code, Instr::Hole)?;
-            let first = emit(alloc, code, body, last)?;
-            patch(
-                code,
-                last,
-                Instr::Again {
-                    body: first,
-                    least: *least,
-                    greatest: *greatest,
-                    greedy: *greedy,
-                    next,
-                },
-            );
-            push(
-                code,
-                Instr::Loop {
-                    body: first,
-                    least: *least,
-                    greatest: *greatest,
-                    greedy: *greedy,
-                    next,
-                },
-            )
-        }
+        } => emit_loop(alloc, code, body, *least, *greatest, *greedy, next),
         Pattern::Look {
             body,
             ahead,
             negative,
-        } => {
-            if let Some(one) = single_of(body)? {
-                return push(
-                    code,
-                    Instr::Peek {
-                        one,
-                        ahead: *ahead,
-                        negative: *negative,
-                        next,
-                    },
-                );
-            }
-            if *ahead {
-                return emit_ahead(alloc, code, body, *negative, true, next);
-            }
-            emit_behind(alloc, code, body, *negative, next)
-        }
+        } => emit_look(alloc, code, body, *ahead, *negative, next),
         Pattern::Back { groups, fold } => {
             let own = Vec::from_slice(alloc, groups.as_slice())?;
             push(
@@ -254,6 +192,91 @@ pub(crate) fn emit(
             },
         ),
     }
+}
+
+/// The code of a group.
+#[cycle(emit)]
+fn emit_group(
+    alloc: Global,
+    code: &mut Vec<Instr>,
+    number: u32,
+    body: &Pattern,
+    next: u32,
+) -> Result<u32, OutOfMemory>
+    ensures { IfOk result (λ pc. Grows code.old.items code.new.items × Code code.new.items (Group number (tree_of body.now)) pc next
+        × Adds code.old.items code.new.items (code_size (Group number (tree_of body.now)))) }
+{
+    let last = push(code, Instr::Close { number, next })?;
+    let first = emit(alloc, code, body, last)?;
+    push(code, Instr::Open { next: first })
+}
+
+/// The code of a loop.
+#[cycle(emit)]
+fn emit_loop(
+    alloc: Global,
+    code: &mut Vec<Instr>,
+    body: &Pattern,
+    least: u32,
+    greatest: Option<u32>,
+    greedy: bool,
+    next: u32,
+) -> Result<u32, OutOfMemory>
+    ensures { let tree = Repeat (tree_of body.now) least greatest greedy in
+        IfOk result (λ pc. Grows code.old.items code.new.items × Code code.new.items tree pc next × Adds code.old.items code.new.items (code_size tree)) }
+{
+    if let Some(one) = span_of(body, least, greatest, greedy)? {
+        return push(
+            code,
+            Instr::Span {
+                one,
+                least,
+                greatest,
+                next,
+            },
+        );
+    }
+    let last = push(code, Instr::Hole)?;
+    let first = emit(alloc, code, body, last)?;
+    let rounds = Rounds {
+        body: first,
+        least,
+        greatest,
+        greedy,
+        next,
+    };
+    patch(code, last, Instr::Again(rounds));
+    push(code, Instr::Loop(rounds))
+}
+
+/// The code of a look.
+#[cycle(emit)]
+fn emit_look(
+    alloc: Global,
+    code: &mut Vec<Instr>,
+    body: &Pattern,
+    ahead: bool,
+    negative: bool,
+    next: u32,
+) -> Result<u32, OutOfMemory>
+    ensures { let tree = Look (tree_of body.now) ahead negative in
+        IfOk result (λ pc. Grows code.old.items code.new.items × Code code.new.items tree pc next × Adds code.old.items code.new.items (code_size tree)) }
+{
+    if let Some(one) = single_of(body)? {
+        return push(
+            code,
+            Instr::Peek {
+                one,
+                ahead,
+                negative,
+                next,
+            },
+        );
+    }
+    if ahead {
+        return emit_ahead(alloc, code, body, negative, true, next);
+    }
+    emit_behind(alloc, code, body, negative, next)
 }
 
 /// The code of a body that is searched alone from the position on.

@@ -18,5 +18,4 @@ mod running;
 mod singles;
 pub mod starts;
 mod trail;
-mod widths;
 mod words;

@@ -10,7 +10,7 @@ ghost use Rattle.tm_onig_vm.specs.inner.Anchors.{subject_of};
 ghost use Rattle.tm_onig_vm.specs.inner.Machine.{at_pc, turn_of, behind_of, goes_for, read_of, exec};
 ghost use Rattle.tm_onig_vm.specs.inner.Threads.{plain, plains, numbers_of, groups_under, Does, Acts};
 
-use crate::code::Instr;
+use crate::code::{Instr, Rounds};
 use crate::groups::{group_at, last_set, set_group};
 use crate::places::{is_at_place, stands_at, text_of};
 use crate::singles::{Single, run_length, stands};
@@ -169,17 +169,9 @@ fn close_act(
 }
 
 #[tactic(auto, unfolding(crate::specs::inner::Machine::exec))]
-fn again_act(
-    body: u32,
-    least: u32,
-    greatest: Option<u32>,
-    greedy: bool,
-    next: u32,
-    pos: usize,
-    trail: &mut Trail,
-) -> Result<Acted, OutOfMemory>
+fn again_act(rounds: Rounds, pos: usize, trail: &mut Trail) -> Result<Acted, OutOfMemory>
     requires small { pos < 2 ^ 31 }
-    ensures does { (s : Subject) (caps : List (Option (ℕ × ℕ))) → IfOk result (λ acted. Acts s (Instr.Again body least greatest greedy next) pos trail.old caps trail.new caps acted) }
+    ensures does { (s : Subject) (caps : List (Option (ℕ × ℕ))) → IfOk result (λ acted. Acts s (Instr.Again rounds) pos trail.old caps trail.new caps acted) }
     ensures kept { OnOk result ((caps : List (Option (ℕ × ℕ))) → groups_under trail.new caps ≡ groups_under trail.old caps) }
 {
     let Some(start) = take_number(trail)? else {
@@ -189,9 +181,15 @@ fn again_act(
         return Ok(Acted::Costs(1));
     };
     if pos == start as usize {
-        return Ok(Acted::Goes(1, Way { pc: next, pos }));
+        return Ok(Acted::Goes(
+            1,
+            Way {
+                pc: rounds.next,
+                pos,
+            },
+        ));
     }
-    let way = turn(trail, body, least, greatest, greedy, next, count, pos)?;
+    let way = turn(trail, rounds, count, pos)?;
     Ok(Acted::Goes(2, way))
 }
 
@@ -207,6 +205,53 @@ fn arrive_act(next: u32, pos: usize, trail: &mut Trail) -> Result<Acted, OutOfMe
         return Ok(Acted::Goes(1, Way { pc: next, pos }));
     }
     Ok(Acted::Costs(1))
+}
+
+/// A body that is searched alone from the position on.
+#[tactic(auto, unfolding(crate::specs::inner::Machine::exec))]
+fn ahead_act(
+    alloc: Global,
+    body: u32,
+    negative: bool,
+    stays: bool,
+    next: u32,
+    pos: usize,
+) -> Result<Acted, OutOfMemory>
+    ensures { (s : Subject) (trail : Trail) (caps : List (Option (ℕ × ℕ))) →
+        IfOk result (λ acted. Acts s (Instr.Ahead body negative stays next) pos trail caps trail caps acted) }
+{
+    let mut inner = blank_trail(alloc);
+    go(&mut inner, body, pos)?;
+    Ok(Acted::Waits(Waiting {
+        inner,
+        negative,
+        stays,
+        rest: Way { pc: next, pos },
+    }))
+}
+
+/// A body that is searched alone up to the position.
+#[tactic(auto, unfolding(crate::specs::inner::Machine::exec))]
+fn behind_act(
+    alloc: Global,
+    body: u32,
+    negative: bool,
+    least: u64,
+    greatest: Option<u64>,
+    next: u32,
+    pos: usize,
+) -> Result<Acted, OutOfMemory>
+    requires small { pos < 2 ^ 31 }
+    ensures { (s : Subject) (trail : Trail) (caps : List (Option (ℕ × ℕ))) →
+        IfOk result (λ acted. Acts s (Instr.Behind body negative least greatest next) pos trail caps trail caps acted) }
+{
+    let inner = behind_trail(alloc, body, least, greatest, pos)?;
+    Ok(Acted::Waits(Waiting {
+        inner,
+        negative,
+        stays: true,
+        rest: Way { pc: next, pos },
+    }))
 }
 
 /// Carries out the instruction at the position.
@@ -254,23 +299,11 @@ pub(crate) fn act(
             Ok(Acted::Goes(1, Way { pc: *next, pos }))
         }
         Instr::Close { number, next } => close_act(*number, *next, pos, trail, caps),
-        Instr::Loop {
-            body,
-            least,
-            greatest,
-            greedy,
-            next,
-        } => {
-            let way = turn(trail, *body, *least, *greatest, *greedy, *next, 0, pos)?;
+        Instr::Loop(rounds) => {
+            let way = turn(trail, *rounds, 0, pos)?;
             Ok(Acted::Goes(1, way))
         }
-        Instr::Again {
-            body,
-            least,
-            greatest,
-            greedy,
-            next,
-        } => again_act(*body, *least, *greatest, *greedy, *next, pos, trail),
+        Instr::Again(rounds) => again_act(*rounds, pos, trail),
         Instr::Read { groups, fold, next } => {
             let group = last_set(caps, groups.as_slice());
             Ok(read_act(line, group, *fold, *next, pos))
@@ -284,31 +317,14 @@ pub(crate) fn act(
             negative,
             stays,
             next,
-        } => {
-            let mut inner = blank_trail(alloc);
-            go(&mut inner, *body, pos)?;
-            Ok(Acted::Waits(Waiting {
-                inner,
-                negative: *negative,
-                stays: *stays,
-                rest: Way { pc: *next, pos },
-            }))
-        }
+        } => ahead_act(alloc, *body, *negative, *stays, *next, pos),
         Instr::Behind {
             body,
             negative,
             least,
             greatest,
             next,
-        } => {
-            let inner = behind_trail(alloc, *body, *least, *greatest, pos)?;
-            Ok(Acted::Waits(Waiting {
-                inner,
-                negative: *negative,
-                stays: true,
-                rest: Way { pc: *next, pos },
-            }))
-        }
+        } => behind_act(alloc, *body, *negative, *least, *greatest, *next, pos),
         Instr::Arrive { next } => arrive_act(*next, pos, trail),
     }
 }

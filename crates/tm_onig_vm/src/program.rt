@@ -6,9 +6,9 @@ ghost use Rattle.std.specs.Prelude.{◌≡◌, ℕ, ◌+◌, ◌^◌, ◌<◌, �
 ghost use Rattle.tm_onig_class.specs.Tree.{tree_of};
 ghost use Rattle.tm_onig_search.specs.Find.{at_start, with_whole, first_match, search_cost};
 ghost use Rattle.tm_onig_vm.specs.First.{NeverStarts, next_class};
+ghost use Rattle.tm_onig_vm.specs.Found.{groups_found};
 ghost use Rattle.tm_onig_vm.specs.inner.Anchors.{subject_of};
 ghost use Rattle.tm_onig_vm.specs.inner.Size.{code_size};
-ghost use Rattle.tm_onig_vm.specs.inner.Threads.{hit_at};
 
 use crate::code::{Instr, emit, push};
 use crate::copies::copy;
@@ -18,7 +18,6 @@ use crate::groups::set_group;
 use crate::running::{Reads, run};
 use crate::starts::{Anchors, class_of, known_behind};
 use crate::trail::{Trail, Way, blank_trail};
-use crate::widths::last_group;
 use smallvec::SmallVec;
 use std::alloc::Global;
 use std::marker::Model;
@@ -26,6 +25,7 @@ use tm_defs::caps::Caps;
 use tm_defs::memory::OutOfMemory;
 use tm_defs::texts::Line;
 use tm_onig_class::patterns::Pattern;
+use tm_onig_search::widths::last_group;
 
 /// A pattern made ready for searches.
 #[derive(Drop)]
@@ -91,43 +91,37 @@ impl Prog {
 /// What searches take beside the line: the trail and the groups of one, which the next one uses again.
 #[derive(Drop)]
 pub struct Room {
-    trail: Trail,
-    caps: SmallVec<Option<(u32, u32)>, 8>,
+    pub trail: Trail,
+    pub groups: SmallVec<Option<(u32, u32)>, 8>,
 }
 
 impl Room {
     pub fn new(alloc: Global) -> Room {
         Room {
             trail: blank_trail(alloc),
-            caps: SmallVec::new(alloc),
+            groups: SmallVec::new(alloc),
         }
     }
 }
 
 /// Sets no group, of so many.
-fn reset(caps: &mut SmallVec<Option<(u32, u32)>, 8>, groups: usize) -> Result<(), OutOfMemory>
-    ensures { OnOk result (caps.new.items ≡ replicate groups None) }
+fn reset(groups: &mut SmallVec<Option<(u32, u32)>, 8>, count: usize) -> Result<(), OutOfMemory>
+    ensures { OnOk result (groups.new.items ≡ replicate count None) }
 {
-    caps.clear();
-    for _i in 0..groups {
-        caps.push(None)?;
+    groups.clear();
+    for _i in 0..count {
+        groups.push(None)?;
     }
     Ok(())
 }
 
-/// The groups of a match, the whole match first.
-fn groups_of(
-    alloc: Global,
-    groups: &[Option<(u32, u32)>],
-    start: usize,
-    end: usize,
-) -> Result<Caps, OutOfMemory>
-    requires small { (start < 2 ^ 31) × (end < 2 ^ 31) }
-    ensures { IfOk result (λ caps. caps ≡ with_whole start (hit_at groups.now end)) }
+/// The groups of the match that `attempt` found last, the whole match first: where it starts and ends is given.
+pub fn groups_of(alloc: Global, room: &Room, start: u32, end: u32) -> Result<Caps, OutOfMemory>
+    ensures { IfOk result (λ caps. caps ≡ groups_found room.now.groups.items start end) }
 {
-    let mut caps = SmallVec::from_slice(alloc, groups)?;
-    set_group(caps.as_mut_slice(), 0, Some((start as u32, end as u32)));
-    Ok(Caps::new(caps))
+    let mut groups = SmallVec::from_slice(alloc, room.groups.as_slice())?;
+    set_group(groups.as_mut_slice(), 0, Some((start, end)));
+    Ok(Caps::new(groups))
 }
 
 /// How many instructions the program has: one to three for each node of the pattern's tree, and one more,
@@ -138,8 +132,8 @@ pub fn instructions(prog: &Prog) -> usize
     prog.code.len()
 }
 
-/// The groups of the match that starts here, the whole match first, or none where the pattern matches at
-/// another start alone.
+/// Where the match ends that starts here, or none where the pattern matches at another start alone. The room has
+/// its groups then, for `groups_of`.
 pub fn attempt(
     alloc: Global,
     prog: &Prog,
@@ -148,16 +142,17 @@ pub fn attempt(
     start: usize,
     room: &mut Room,
     budget: &mut u64,
-) -> Result<Option<Caps>, FindFault>
+) -> Result<Option<u32>, FindFault>
     requires small { length line.now < 2 ^ 31 }
     requires within { start ≤ length line.now }
-    ensures hit { IfOk result (λ found. found ≡ option_map (with_whole start) (at_start (subject_of line.now anchors) (tree_of prog.now) start).hit) }
+    ensures hit { IfOk result (λ found. option_map (groups_found room.new.groups.items start) found
+        ≡ option_map (with_whole start) (at_start (subject_of line.now anchors) (tree_of prog.now) start).hit) }
     ensures over { IsErrOf result FindFault.Budget → budget.old < (at_start (subject_of line.now anchors) (tree_of prog.now) start).cost }
     ensures falls { (budget.new ≤ budget.old) × (budget.old ≤ budget.new + (at_start (subject_of line.now anchors) (tree_of prog.now) start).cost) }
 {
     room.trail.marks.clear();
     room.trail.numbers.clear();
-    reset(&mut room.caps, prog.groups as usize + 1)?;
+    reset(&mut room.groups, prog.groups as usize + 1)?;
     let reads = Reads {
         alloc,
         line,
@@ -172,14 +167,11 @@ pub fn attempt(
         &reads,
         first,
         &mut room.trail,
-        room.caps.as_mut_slice(),
+        room.groups.as_mut_slice(),
         budget,
     ) {
         Ok(None) => Ok(None),
-        Ok(Some(end)) => {
-            let caps = groups_of(alloc, room.caps.as_slice(), start, end)?;
-            Ok(Some(caps))
-        }
+        Ok(Some(end)) => Ok(Some(end as u32)),
         Err(fault) => Err(fault),
     }
 }
@@ -219,7 +211,10 @@ pub fn find(
         }
         match attempt(alloc, prog, chars, anchors, start, &mut room, budget) {
             Ok(None) => {}
-            Ok(Some(caps)) => return Ok(Some(caps)),
+            Ok(Some(end)) => {
+                let caps = groups_of(alloc, &room, start as u32, end)?;
+                return Ok(Some(caps));
+            }
             Err(fault) => return Err(fault),
         }
     }

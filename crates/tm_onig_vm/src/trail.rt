@@ -9,6 +9,7 @@ ghost use Rattle.tm_onig_search.specs.Search.{is_at, width_or};
 ghost use Rattle.tm_onig_vm.specs.inner.Machine.{at_pc, from_each, turn_of, behind_of, resumed_threads};
 ghost use Rattle.tm_onig_vm.specs.inner.Threads.{plain, plains, numbers_of, groups_under, hit_at};
 
+use crate::code::Rounds;
 use crate::groups::{group_at, set_group};
 use std::alloc::Global;
 use tm_defs::memory::OutOfMemory;
@@ -229,36 +230,44 @@ fn begin_round(trail: &mut Trail, count: u32, pos: usize) -> Result<(), OutOfMem
 /// A loop that has made `count` rounds: the way that goes on.
 pub(crate) fn turn(
     trail: &mut Trail,
-    first: u32,
-    least: u32,
-    greatest: Option<u32>,
-    greedy: bool,
-    next: u32,
+    rounds: Rounds,
     count: u32,
     pos: usize,
 ) -> Result<Way, OutOfMemory>
     requires { pos < 2 ^ 31 }
     ensures ways { IfOk result (λ way. (caps : List (Option (ℕ × ℕ))) → plain way (numbers_of trail.new) caps ∷ plains trail.new caps
-        ≡ turn_of first least greatest greedy next count (numbers_of trail.old) pos caps ++ plains trail.old caps) }
+        ≡ turn_of rounds.body rounds.least rounds.greatest rounds.greedy rounds.next count (numbers_of trail.old) pos caps ++ plains trail.old caps) }
     ensures kept { OnOk result ((caps : List (Option (ℕ × ℕ))) → groups_under trail.new caps ≡ groups_under trail.old caps) }
 {
-    if count < least {
+    if count < rounds.least {
         begin_round(trail, count, pos)?;
-        return Ok(Way { pc: first, pos });
+        return Ok(Way {
+            pc: rounds.body,
+            pos,
+        });
     }
-    if reaches(count, greatest) {
-        return Ok(Way { pc: next, pos });
+    if reaches(count, rounds.greatest) {
+        return Ok(Way {
+            pc: rounds.next,
+            pos,
+        });
     }
-    if greedy {
-        go(trail, next, pos)?;
+    if rounds.greedy {
+        go(trail, rounds.next, pos)?;
         begin_round(trail, count, pos)?;
-        Ok(Way { pc: first, pos })
+        Ok(Way {
+            pc: rounds.body,
+            pos,
+        })
     } else {
         begin_round(trail, count, pos)?;
-        go(trail, first, pos)?;
+        go(trail, rounds.body, pos)?;
         let _start = take_number(trail)?;
         let _count = take_number(trail)?;
-        Ok(Way { pc: next, pos })
+        Ok(Way {
+            pc: rounds.next,
+            pos,
+        })
     }
 }
 

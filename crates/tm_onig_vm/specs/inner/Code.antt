@@ -6,11 +6,15 @@ use Rattle.tm_onig_class.specs.Tree.{Tree, Empty, Char, Any, InSet, Cat, Alt, Gr
 use Rattle.tm_onig_search.specs.Widths.{least_width, greatest_width}
 use Rattle.tm_onig_search.specs.Find.{last_group}
 use Rattle.tm_onig_vm.specs.declared.code.Instr.{Instr}
+use Rattle.tm_onig_vm.specs.declared.code.Rounds.{Rounds}
 use Rattle.tm_onig_vm.specs.declared.code.Instr.TheVariants as I
 use Rattle.tm_onig_vm.specs.declared.singles.Single.{Single}
-use Rattle.tm_onig_vm.specs.inner.Near.{near}
+use Rattle.tm_onig_search.specs.Near.{near}
 use Rattle.tm_onig_vm.specs.inner.Single.{single_tree, fits}
 use Rattle.tm_onig_vm.specs.inner.Size.{code_size}
+
+abbrev pub loop_of : ℕ → ℕ → Option ℕ → Bool → ℕ → Rounds
+loop_of first least greatest greedy next = record { body = first; least = least; greatest = greatest; greedy = greedy; next = next }
 
 module _ (code : List Instr) where
   -- one character
@@ -41,8 +45,8 @@ module _ (code : List Instr) where
         (first last : ℕ) × (slice_get code pc ≡ Some (I.Ahead first false false next)) × Code t first last × (slice_get code last ≡ Some I.Accept)
     Code (Repeat t least greatest greedy) pc next =
         SpanCode t least greatest greedy pc next
-        ⊎ ((first last : ℕ) × (slice_get code pc ≡ Some (I.Loop first least greatest greedy next)) × Code t first last
-        × (slice_get code last ≡ Some (I.Again first least greatest greedy next)))
+        ⊎ ((first last : ℕ) × (slice_get code pc ≡ Some (I.Loop (loop_of first least greatest greedy next))) × Code t first last
+        × (slice_get code last ≡ Some (I.Again (loop_of first least greatest greedy next))))
     Code (Look t true negative) pc next =
         PeekCode t true negative pc next
         ⊎ ((first last : ℕ) × (slice_get code pc ≡ Some (I.Ahead first negative true next)) × Code t first last × (slice_get code last ≡ Some I.Accept))

@@ -7,7 +7,7 @@ use Rattle.tm_onig_search.specs.Search.{close, at_goal, is_at, again, last_set, 
 use Rattle.std.specs.Prelude.{slice_range, drop}
 use Rattle.tm_onig_vm.specs.declared.code.Instr.{Instr}
 use Rattle.tm_onig_vm.specs.declared.code.Instr.TheVariants as I
-use Rattle.tm_onig_vm.specs.inner.Code.{Code}
+use Rattle.tm_onig_vm.specs.inner.Code.{Code, loop_of}
 use Rattle.tm_onig_vm.specs.inner.Single.{single_has, run_of, most_of}
 
 -- the body alone gave o: whether it must not match, and whether the search goes on where it stood
@@ -48,7 +48,7 @@ module _ (code : List Instr) where
   Stands (Do t ∷ fs) pc = (next : ℕ) × Code code t pc next × Stands fs next
   Stands (CloseOf number ∷ fs) pc = (next : ℕ) × (slice_get code pc ≡ Some (I.Close number next)) × Stands fs next
   Stands (AgainOf t least greatest greedy ∷ fs) pc =
-      (first next : ℕ) × (slice_get code pc ≡ Some (I.Again first least greatest greedy next)) × Code code t first pc × Stands fs next
+      (first next : ℕ) × (slice_get code pc ≡ Some (I.Again (loop_of first least greatest greedy next))) × Code code t first pc × Stands fs next
   Stands (ArriveOf ∷ fs) pc = (next : ℕ) × (slice_get code pc ≡ Some (I.Arrive next)) × Stands fs next
 
 -- a loop that has made count rounds
@@ -117,11 +117,11 @@ module _ (s : Subject) where
   exec (I.Open next) numbers pos caps = Goes 1 (at_pc next (pos ∷ numbers) pos caps ∷ [])
   exec (I.Close number next) [] pos caps = Goes 1 []
   exec (I.Close number next) (start ∷ numbers) pos caps = Goes 1 (at_pc next numbers pos (slice_set caps number (Some (start, pos))) ∷ [])
-  exec (I.Loop first least greatest greedy next) numbers pos caps = Goes 1 (turn_of first least greatest greedy next 0 numbers pos caps)
-  exec (I.Again first least greatest greedy next) [] pos caps = Goes 1 []
-  exec (I.Again first least greatest greedy next) (start ∷ []) pos caps = Goes 1 []
-  exec (I.Again first least greatest greedy next) (start ∷ count ∷ numbers) pos caps =
-      if pos == start then Goes 1 (at_pc next numbers pos caps ∷ []) else Goes 2 (turn_of first least greatest greedy next count numbers pos caps)
+  exec (I.Loop r) numbers pos caps = Goes 1 (turn_of r.body r.least r.greatest r.greedy r.next 0 numbers pos caps)
+  exec (I.Again r) [] pos caps = Goes 1 []
+  exec (I.Again r) (start ∷ []) pos caps = Goes 1 []
+  exec (I.Again r) (start ∷ count ∷ numbers) pos caps =
+      if pos == start then Goes 1 (at_pc r.next numbers pos caps ∷ []) else Goes 2 (turn_of r.body r.least r.greatest r.greedy r.next count numbers pos caps)
   exec (I.Read groups fold next) numbers pos caps = read_of fold (last_set caps groups) next numbers pos caps
   exec (I.Place place next) numbers pos caps = goes_if (holds s place pos) (at_pc next numbers pos caps)
   exec (I.Ahead first negative stays next) numbers pos caps = Waits (at_pc first [] pos caps ∷ []) negative stays (at_pc next numbers pos caps)

@@ -1,13 +1,13 @@
-use Rattle.std.proofs.Common.{ℕ, ◌+◌, ◌-◌, ◌≤◌, List, Option, subst, length, arith}
-use Rattle.std.specs.Prelude.{Result}
+use Rattle.std.proofs.Common.{ℕ, ◌+◌, ◌-◌, ◌≤◌, List, Option, ap, subst, length, arith}
+use Rattle.std.specs.Prelude.{Result, option_map}
 use Rattle.tm_onig_search.specs.Outcomes.{Caps}
 use Rattle.tm_onig_vm.specs.declared.fault.FindFault.{FindFault}
 use Rattle.std.specs.Option.{option_copied}
 use Rattle.tm_onig_class.specs.Tree.{Tree}
 use Rattle.tm_onig_search.specs.Places.{Subject}
 use Rattle.tm_onig_scan.specs.Asked.{searched_in, subject_in, trees_in}
-use Rattle.tm_onig_scan.specs.Pass.{Pass, Tries, pass_or, pass_here, pass_from}
-use Rattle.tm_onig_scan.proofs.Tried.{IsPassing, tries_on, tries_won, tries_fails, tries_ends, from_at, from_done}
+use Rattle.tm_onig_scan.specs.Pass.{Pass, Tries, with_groups, pass_or, pass_here, pass_from}
+use Rattle.tm_onig_scan.proofs.Tried.{IsPassing, tries_on, tries_told, tries_fails, tries_ends, from_at, from_done}
 use Rattle.tm_onig_scan.proofs.passes.pass.Goals as goal
 use Rattle.tm_onig_scan.proofs.passes.pass.Goals.{After-try_listed}
 
@@ -33,6 +33,10 @@ module _ (c : After-try_listed) where
   here : IsPassing all (pass_or one later) c.args.budget.now c.loop-start.budget
   here = subst (λ p. IsPassing all p c.args.budget.now c.loop-start.budget) (from_at s c.args.job.now.asked.text.now c.loop-start.start patterns fits) c.loop-start.invariant
 
+  -- what was found, with its groups
+  groups : ℕ × ℕ → ℕ × Caps
+  groups = with_groups c.try_listed.new.room.groups.items c.loop-start.start
+
   at_once : (r : Result (Option (ℕ × Caps)) FindFault) →
       Tries (pass_here s c.at_start-at.result.start 0 patterns) c.loop-start.budget c.try_listed.new.budget r → Tries one c.loop-start.budget c.try_listed.new.budget r
   at_once r t = subst (λ q. Tries (pass_here s q 0 patterns) c.loop-start.budget c.try_listed.new.budget r) c.at_start-at.ensures.start t
@@ -40,7 +44,8 @@ module _ (c : After-try_listed) where
 pub returns-in-Ok-Some : goal.returns-in-Ok-Some
 returns-in-Ok-Some c =
     let r = (goal.at.returns-in-Ok-Some c).After-try_listed in
-    tries_won (all r) (one r) (later r) c.args.budget.now c.loop-start.budget c.try_listed.new.budget (here r) c.in-Ok-Some.field-0 c.in-Ok-Some.won c.in-Ok-Some.field-0-is (at_once r _ c.in-Ok-Some.ensures)
+    tries_told (all r) (one r) (later r) c.args.budget.now c.loop-start.budget c.try_listed.new.budget (here r) (option_map (groups r) c.in-Ok-Some.field-0) (groups r c.in-Ok-Some.won)
+    (ap (option_map (groups r)) c.in-Ok-Some.field-0-is) (at_once r _ c.in-Ok-Some.ensures) c.with_groups.result c.with_groups.ensures.won c.with_groups.ensures.memory
 
 pub returns-in-Err : goal.returns-in-Err
 returns-in-Err c =
@@ -50,7 +55,7 @@ returns-in-Err c =
 pub loop-start-preserved : goal.loop-start-preserved
 loop-start-preserved c =
     let r = (goal.at.loop-start-preserved c).After-try_listed in
-    tries_on (all r) (one r) (later r) c.args.budget.now c.loop-start.budget c.try_listed.new.budget (here r) c.in-Ok-None.field-0 c.in-Ok-None.field-0-is (at_once r _ c.in-Ok-None.ensures)
+    tries_on (all r) (one r) (later r) c.args.budget.now c.loop-start.budget c.try_listed.new.budget (here r) (option_map (groups r) c.in-Ok-None.field-0) (ap (option_map (groups r)) c.in-Ok-None.field-0-is) (at_once r _ c.in-Ok-None.ensures)
 
 pub returns : goal.returns
 returns c = tries_ends _ _ _ _ c.loop-start.invariant (from_done _ _ _ _ (let outside = c.loop-start-test.false in omega arith))

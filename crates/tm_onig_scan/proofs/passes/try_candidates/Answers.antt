@@ -8,7 +8,7 @@ use Rattle.tm_onig_scan.specs.declared.asked.Instead.{Instead}
 use Rattle.tm_onig_scan.specs.Asked.{put_in, subject_in, trees_in}
 use Rattle.tm_onig_scan.specs.Rows.{IsRow}
 use Rattle.tm_onig_scan.specs.Winner.{patterns_at}
-use Rattle.tm_onig_scan.specs.Pass.{Tries, pass_around, pass_here, pass_row}
+use Rattle.tm_onig_scan.specs.Pass.{Tries, answer_in, pass_around, pass_here, pass_row}
 use Rattle.tm_onig_scan.proofs.Tried.{IsPart, tries_part}
 use Rattle.tm_onig_scan.proofs.Rows.{row_passes, around_passes, length_at, set_beyond}
 use Rattle.tm_onig_scan.proofs.passes.try_candidates.Goals as goal
@@ -45,10 +45,10 @@ returns-in-Some c =
     let less = c.if-instead-len.true in
     let low : it.place < length (patterns r) = grind (arith, nat_tests) in
     let o = option_map tree_of (option_copied it.program) in
-    let tried = subst (λ (ns : List ℕ). Tries (pass_around (s r) c.args.at.start (patterns_at (trees_in c.args.job.now) ns) it.place o c.row_of-row.result.now) c.args.budget.now c.try_around.new.budget c.try_around.result)
+    let tried = subst (λ (ns : List ℕ). Tries (pass_around (s r) c.args.at.start (patterns_at (trees_in c.args.job.now) ns) it.place o c.row_of-row.result.now) c.args.budget.now c.try_around.new.budget (answer_in c.try_around.new.room.groups.items c.args.at.start c.try_around.result))
     c.deref.ensures.value c.try_around.ensures in
-    subst (λ (i : Option Instead). Tries (pass_here (s r) c.args.at.start 0 (put_in (patterns r) i)) c.args.budget.now c.try_around.new.budget c.try_around.result) (sym e)
-    (tries_part _ _ c.args.budget.now c.try_around.new.budget c.try_around.result (around r it.place o low) tried)
+    subst (λ (i : Option Instead). Tries (pass_here (s r) c.args.at.start 0 (put_in (patterns r) i)) c.args.budget.now c.try_around.new.budget (answer_in c.try_around.new.room.groups.items c.args.at.start c.try_around.result)) (sym e)
+    (tries_part _ _ c.args.budget.now c.try_around.new.budget (answer_in c.try_around.new.room.groups.items c.args.at.start c.try_around.result) (around r it.place o low) tried)
 
 pub returns-in_default : goal.returns-in_default
 returns-in_default c =
@@ -66,7 +66,7 @@ returns-in_default c =
           ap (put_in (patterns r)) e ∙ set_beyond (patterns r) it.place (option_map tree_of (option_copied it.program)) past
       | in_default-via-in_default w ↦ ap (put_in (patterns r)) w.in_default.is
     ] in
-    let tried = subst (λ (ns : List ℕ). Tries (pass_row (s r) c.args.at.start (patterns_at (trees_in c.args.job.now) ns) c.row_of-row.result.now) c.args.budget.now c.try_row.new.budget c.try_row.result)
+    let tried = subst (λ (ns : List ℕ). Tries (pass_row (s r) c.args.at.start (patterns_at (trees_in c.args.job.now) ns) c.row_of-row.result.now) c.args.budget.now c.try_row.new.budget (answer_in c.try_row.new.room.groups.items c.args.at.start c.try_row.result))
     c.deref-in_default.ensures.value c.try_row.ensures in
-    subst (λ (ps : List (Option Tree)). Tries (pass_here (s r) c.args.at.start 0 ps) c.args.budget.now c.try_row.new.budget c.try_row.result) (sym same)
-    (tries_part _ _ c.args.budget.now c.try_row.new.budget c.try_row.result (part r) tried)
+    subst (λ (ps : List (Option Tree)). Tries (pass_here (s r) c.args.at.start 0 ps) c.args.budget.now c.try_row.new.budget (answer_in c.try_row.new.room.groups.items c.args.at.start c.try_row.result)) (sym same)
+    (tries_part _ _ c.args.budget.now c.try_row.new.budget (answer_in c.try_row.new.room.groups.items c.args.at.start c.try_row.result) (part r) tried)

@@ -38,22 +38,6 @@ emit-returns-in_ok-targets-in-Alt t c =
     (trees (map tree_of c.in-Alt.parts)) c.in_ok-targets-in-Alt.targets.items (ap I.Choice c.from_vec.ensures) any adds))
     c.push-in-Alt.ensures
 
-pub emit-returns-in_ok-first-in-Group : goal.emit-returns-in_ok-first-in-Group
-emit-returns-in_ok-first-in-Group t c =
-    let close = at_push c.args.code.now.items c.push-in-Group.new.code.items (I.Close c.in-Group.number c.args.next) c.in_ok-last-in-Group.last c.in_ok-last-in-Group.ensures.0 c.in_ok-last-in-Group.ensures.1 in
-    let first = grows_push c.args.code.now.items c.push-in-Group.new.code.items (I.Close c.in-Group.number c.args.next) c.in_ok-last-in-Group.ensures.0 in
-    let grows = c.in_ok-first-in-Group.ensures.0 in
-    let body = rw c.deref.ensures at c.in_ok-first-in-Group.ensures.1 in
-    let size = rw c.deref.ensures at c.in_ok-first-in-Group.ensures.2 in
-    let one = adds_push c.args.code.now.items c.push-in-Group.new.code.items (I.Close c.in-Group.number c.args.next) c.in_ok-last-in-Group.ensures.0 in
-    let adds : Adds c.args.code.now.items c.emit.new.code.items (code_size (tree_of c.in-Group.body.value) + 1) = omega arith in
-    IfOk-weaker c.push-in-Group-2.result _ _
-    (λ pc made. rw (c.in-Group.is, tree_of-Group c.in-Group.number c.in-Group.body)
-    (group_done c.args.code.now.items c.emit.new.code.items c.push-in-Group-2.new.code.items (I.Open c.in_ok-first-in-Group.first) pc c.args.next
-    (grows_trans c.args.code.now.items c.push-in-Group.new.code.items c.emit.new.code.items first grows) made.0 made.1
-    c.in-Group.number (tree_of c.in-Group.body.value) c.in_ok-first-in-Group.first c.in_ok-last-in-Group.last refl body (grows c.in_ok-last-in-Group.last (I.Close c.in-Group.number c.args.next) close) adds))
-    c.push-in-Group-2.ensures
-
 pub emit-returns-in-Some : goal.emit-returns-in-Some
 emit-returns-in-Some t c =
     let of = rw c.in-Some.is at c.in_ok-one.ensures in
@@ -62,38 +46,6 @@ emit-returns-in-Some t c =
     one_done c.args.code.now.items c.args.code.now.items c.push.new.code.items (I.One c.in-Some.one c.args.next) pc c.args.next (grows_refl c.args.code.now.items) made.0 made.1
     (tree_of c.args.pattern.now) c.in-Some.one refl of (omega arith))
     c.push.ensures
-
-pub emit-returns-in-Some-2 : goal.emit-returns-in-Some-2
-emit-returns-in-Some-2 t c =
-    let known = rw c.in-Some-2.is at c.in_ok-one-in-Repeat.ensures in
-    let of = rw c.deref-in-Repeat.ensures at known.0 in
-    IfOk-weaker c.push-in-Some-2.result _ _
-    (λ pc made. rw (c.in-Repeat.is, tree_of-Repeat c.in-Repeat.body c.in-Repeat.least c.in-Repeat.greatest c.in-Repeat.greedy)
-    (span_done c.args.code.now.items c.args.code.now.items c.push-in-Some-2.new.code.items (I.Span c.in-Some-2.one c.in-Repeat.least c.in-Repeat.greatest c.args.next) pc c.args.next (grows_refl c.args.code.now.items) made.0 made.1
-    (tree_of c.in-Repeat.body.value) c.in-Repeat.least c.in-Repeat.greatest c.in-Repeat.greedy c.in-Some-2.one refl of known.1 known.2 (omega arith)))
-    c.push-in-Some-2.ensures
-
-pub emit-returns-in-Some-3 : goal.emit-returns-in-Some-3
-emit-returns-in-Some-3 t c =
-    let known = rw c.in-Some-3.is at c.in_ok-one-in-Look.ensures in
-    let of = rw c.deref-in-Look.ensures at known in
-    IfOk-weaker c.push-in-Some-3.result _ _
-    (λ pc made. rw (c.in-Look.is, tree_of-Look c.in-Look.body c.in-Look.ahead c.in-Look.negative)
-    (peek_done c.args.code.now.items c.args.code.now.items c.push-in-Some-3.new.code.items (I.Peek c.in-Some-3.one c.in-Look.ahead c.in-Look.negative c.args.next) pc c.args.next (grows_refl c.args.code.now.items) made.0 made.1
-    (tree_of c.in-Look.body.value) c.in-Look.ahead c.in-Look.negative c.in-Some-3.one refl of (omega arith)))
-    c.push-in-Some-3.ensures
-
-pub emit-returns-in_ok-first-in-Repeat : goal.emit-returns-in_ok-first-in-Repeat
-emit-returns-in_ok-first-in-Repeat t c =
-    let round_by_round = rw (c.deref-in-Repeat.ensures, c.in_default-2.is) at c.in_ok-one-in-Repeat.ensures in
-    let body = rw c.deref-in-Repeat-2.ensures at c.in_ok-first-in-Repeat.ensures.1 in
-    let adds = rw c.deref-in-Repeat-2.ensures at c.in_ok-first-in-Repeat.ensures.2 in
-    IfOk-weaker c.push-in-Repeat-2.result _ _
-    (λ pc made. rw (c.in-Repeat.is, tree_of-Repeat c.in-Repeat.body c.in-Repeat.least c.in-Repeat.greatest c.in-Repeat.greedy)
-    (repeat_done c.args.code.now.items c.push-in-Repeat.new.code.items c.emit-in-Repeat.new.code.items c.patch.new.code.items c.push-in-Repeat-2.new.code.items
-    (tree_of c.in-Repeat.body.value) c.in-Repeat.least c.in-Repeat.greatest c.in-Repeat.greedy c.in_ok-first-in-Repeat.first c.in_ok-last-in-Repeat.last pc c.args.next
-    c.in_ok-last-in-Repeat.ensures.0 c.in_ok-last-in-Repeat.ensures.1 c.in_ok-first-in-Repeat.ensures.0 body adds c.patch.ensures made.0 made.1 round_by_round))
-    c.push-in-Repeat-2.ensures
 
 pub emit_any-loop-i-preserved : goal.emit_any-loop-i-preserved
 emit_any-loop-i-preserved t c =
@@ -136,22 +88,6 @@ pub emit-returns-in-Atomic : goal.emit-returns-in-Atomic
 emit-returns-in-Atomic t c =
     let made = rw c.deref-in-Atomic.ensures at c.emit_ahead.ensures in rw (c.in-Atomic.is, tree_of-Atomic c.in-Atomic.body) made
 
-pub emit-returns-then-ahead : goal.emit-returns-then-ahead
-emit-returns-then-ahead t c =
-    let long = rw (c.deref-in-Look.ensures, c.in_default-3.is) at c.in_ok-one-in-Look.ensures in
-    IfOk-weaker c.emit_ahead-then-ahead.result _ _
-    (λ pc made. rw (c.in-Look.is, tree_of-Look c.in-Look.body c.in-Look.ahead c.in-Look.negative, c.if-ahead.true)
-    (look_ahead_done c.args.code.now.items c.emit_ahead-then-ahead.new.code.items (tree_of c.in-Look.body.value) c.in-Look.negative pc c.args.next long made))
-    (rw c.deref-then-ahead.ensures at c.emit_ahead-then-ahead.ensures)
-
-pub emit-returns-else-ahead : goal.emit-returns-else-ahead
-emit-returns-else-ahead t c =
-    let long = rw (c.deref-in-Look.ensures, c.in_default-3.is) at c.in_ok-one-in-Look.ensures in
-    IfOk-weaker c.emit_behind.result _ _
-    (λ pc made. rw (c.in-Look.is, tree_of-Look c.in-Look.body c.in-Look.ahead c.in-Look.negative, c.if-ahead.false)
-    (look_behind_done c.args.code.now.items c.emit_behind.new.code.items (tree_of c.in-Look.body.value) c.in-Look.negative pc c.args.next long made))
-    (rw c.deref-in-Look-2.ensures at c.emit_behind.ensures)
-
 pub emit_ahead-returns : goal.emit_ahead-returns
 emit_ahead-returns t c =
     let accept = at_push c.args.code.now.items c.push.new.code.items I.Accept c.in_ok-last.last c.in_ok-last.ensures.0 c.in_ok-last.ensures.1 in
@@ -188,3 +124,73 @@ emit_behind-returns t c =
     grows made.0 made.1 (tree_of c.args.body.now) c.args.negative c.least.result c.greatest.result c.in_ok-first.first last end refl c.least.ensures c.greatest.ensures
     c.in_ok-first.ensures.1 (third last (I.Arrive end) arrive) (third end I.Accept (second end I.Accept accept)) adds)
     c.push-3.ensures
+
+pub emit-returns-in-Group : goal.emit-returns-in-Group
+emit-returns-in-Group t c =
+    let made = rw c.deref.ensures at c.emit_group.ensures in rw (c.in-Group.is, tree_of-Group c.in-Group.number c.in-Group.body) made
+
+pub emit-returns-in-Repeat : goal.emit-returns-in-Repeat
+emit-returns-in-Repeat t c =
+    let made = rw c.deref-in-Repeat.ensures at c.emit_loop.ensures in
+    rw (c.in-Repeat.is, tree_of-Repeat c.in-Repeat.body c.in-Repeat.least c.in-Repeat.greatest c.in-Repeat.greedy) made
+
+pub emit-returns-in-Look : goal.emit-returns-in-Look
+emit-returns-in-Look t c =
+    let made = rw c.deref-in-Look.ensures at c.emit_look.ensures in rw (c.in-Look.is, tree_of-Look c.in-Look.body c.in-Look.ahead c.in-Look.negative) made
+
+pub emit_group-returns : goal.emit_group-returns
+emit_group-returns t c =
+    let close = at_push c.args.code.now.items c.push.new.code.items (I.Close c.args.number c.args.next) c.in_ok-last.last c.in_ok-last.ensures.0 c.in_ok-last.ensures.1 in
+    let first = grows_push c.args.code.now.items c.push.new.code.items (I.Close c.args.number c.args.next) c.in_ok-last.ensures.0 in
+    let grows = c.in_ok-first.ensures.0 in
+    let size = c.in_ok-first.ensures.2 in
+    let one = adds_push c.args.code.now.items c.push.new.code.items (I.Close c.args.number c.args.next) c.in_ok-last.ensures.0 in
+    let adds : Adds c.args.code.now.items c.emit.new.code.items (code_size (tree_of c.args.body.now) + 1) = omega arith in
+    IfOk-weaker c.push-2.result _ _
+    (λ pc made.
+    group_done c.args.code.now.items c.emit.new.code.items c.push-2.new.code.items (I.Open c.in_ok-first.first) pc c.args.next
+    (grows_trans c.args.code.now.items c.push.new.code.items c.emit.new.code.items first grows) made.0 made.1
+    c.args.number (tree_of c.args.body.now) c.in_ok-first.first c.in_ok-last.last refl c.in_ok-first.ensures.1 (grows c.in_ok-last.last (I.Close c.args.number c.args.next) close) adds)
+    c.push-2.ensures
+
+pub emit_loop-returns-in-Some : goal.emit_loop-returns-in-Some
+emit_loop-returns-in-Some t c =
+    let known = rw c.in-Some.is at c.in_ok-one.ensures in
+    IfOk-weaker c.push.result _ _
+    (λ pc made.
+    span_done c.args.code.now.items c.args.code.now.items c.push.new.code.items (I.Span c.in-Some.one c.args.least c.args.greatest c.args.next) pc c.args.next (grows_refl c.args.code.now.items) made.0 made.1
+    (tree_of c.args.body.now) c.args.least c.args.greatest c.args.greedy c.in-Some.one refl known.0 known.1 known.2 (omega arith))
+    c.push.ensures
+
+pub emit_loop-returns : goal.emit_loop-returns
+emit_loop-returns t c =
+    let round_by_round = rw c.in_default.is at c.in_ok-one.ensures in
+    IfOk-weaker c.push-3.result _ _
+    (λ pc made.
+    repeat_done c.args.code.now.items c.push-2.new.code.items c.emit.new.code.items c.patch.new.code.items c.push-3.new.code.items
+    (tree_of c.args.body.now) c.args.least c.args.greatest c.args.greedy c.in_ok-first.first c.in_ok-last.last pc c.args.next
+    c.in_ok-last.ensures.0 c.in_ok-last.ensures.1 c.in_ok-first.ensures.0 c.in_ok-first.ensures.1 c.in_ok-first.ensures.2 c.patch.ensures made.0 made.1 round_by_round)
+    c.push-3.ensures
+
+pub emit_look-returns-in-Some : goal.emit_look-returns-in-Some
+emit_look-returns-in-Some t c =
+    let of = rw c.in-Some.is at c.in_ok-one.ensures in
+    IfOk-weaker c.push.result _ _
+    (λ pc made.
+    peek_done c.args.code.now.items c.args.code.now.items c.push.new.code.items (I.Peek c.in-Some.one c.args.ahead c.args.negative c.args.next) pc c.args.next (grows_refl c.args.code.now.items) made.0 made.1
+    (tree_of c.args.body.now) c.args.ahead c.args.negative c.in-Some.one refl of (omega arith))
+    c.push.ensures
+
+pub emit_look-returns-then-ahead : goal.emit_look-returns-then-ahead
+emit_look-returns-then-ahead t c =
+    let long = rw c.in_default.is at c.in_ok-one.ensures in
+    IfOk-weaker c.emit_ahead.result _ _
+    (λ pc made. rw c.if-ahead.true (look_ahead_done c.args.code.now.items c.emit_ahead.new.code.items (tree_of c.args.body.now) c.args.negative pc c.args.next long made))
+    c.emit_ahead.ensures
+
+pub emit_look-returns : goal.emit_look-returns
+emit_look-returns t c =
+    let long = rw c.in_default.is at c.in_ok-one.ensures in
+    IfOk-weaker c.emit_behind.result _ _
+    (λ pc made. rw c.if-ahead.false (look_behind_done c.args.code.now.items c.emit_behind.new.code.items (tree_of c.args.body.now) c.args.negative pc c.args.next long made))
+    c.emit_behind.ensures

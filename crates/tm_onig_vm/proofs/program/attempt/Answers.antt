@@ -7,6 +7,7 @@ use Rattle.tm_onig_search.specs.Find.{at_start, blank, with_whole}
 use Rattle.tm_onig_search.proofs.Ends.{tree_ends, accept_ends}
 use Rattle.tm_onig_vm.specs.declared.fault.FindFault.TheVariants.{Budget}
 use Rattle.tm_onig_vm.specs.declared.trail.Trail.{Trail}
+use Rattle.tm_onig_vm.specs.Found.{groups_found}
 use Rattle.tm_onig_vm.specs.inner.Anchors.{subject_of}
 use Rattle.tm_onig_vm.specs.inner.Machine.{AllMean}
 use Rattle.tm_onig_vm.specs.inner.Threads.{now_threads, hit_at}
@@ -39,16 +40,11 @@ module _ (c : After-run) where
   falls : (c.run.new.budget ≤ c.args.budget.now) × (c.args.budget.now ≤ c.run.new.budget + o.cost)
   falls = c.run.ensures.falls o means
 
-pub groups_of-requires : goal.groups_of-requires
-groups_of-requires c =
-    let r = (goal.at.groups_of-requires c).After-run in
-    let low : c.args.start ≤ c.args.start = omega arith in
-    let there : Some (hit_at c.run.new.caps c.in-Ok-Some.end) ≡ (o r).hit = ap (option_map (hit_at c.run.new.caps)) (sym c.in-Ok-Some.field-0-is) ∙ c.in-Ok-Some.ensures.hit (o r) (means r) in
-    let end = (tree_ends (s r) (tree_of c.args.prog.now) accept c.args.start c.args.start (blank (tree_of c.args.prog.now)) low c.requires.within (accept_ends (s r) c.args.start) (hit_at c.run.new.caps c.in-Ok-Some.end) (sym there)).1 in
-    let small = c.requires.small in let within = c.requires.within in record { small = (omega arith, omega arith) }
-
-pub returns-in_err-caps-in-Ok-Some-clause-falls : goal.returns-in_err-caps-in-Ok-Some-clause-falls
-returns-in_err-caps-in-Ok-Some-clause-falls c = falls (goal.at.returns-in_err-caps-in-Ok-Some-clause-falls c).After-run
+  -- a match ends within the line
+  ends : (end : ℕ) → Some (hit_at c.run.new.caps end) ≡ o.hit → end ≤ length c.args.line.now
+  ends end there =
+      let low : c.args.start ≤ c.args.start = omega arith in
+      (tree_ends s (tree_of c.args.prog.now) accept c.args.start c.args.start (blank (tree_of c.args.prog.now)) low c.requires.within (accept_ends s c.args.start) (hit_at c.run.new.caps end) (sym there)).1
 
 pub returns-in-Ok-None-clause-hit : goal.returns-in-Ok-None-clause-hit
 returns-in-Ok-None-clause-hit c =
@@ -58,19 +54,6 @@ returns-in-Ok-None-clause-hit c =
 pub returns-in-Ok-None-clause-falls : goal.returns-in-Ok-None-clause-falls
 returns-in-Ok-None-clause-falls c = falls (goal.at.returns-in-Ok-None-clause-falls c).After-run
 
-pub returns-in_ok-caps-in-Ok-Some-clause-hit : goal.returns-in_ok-caps-in-Ok-Some-clause-hit
-returns-in_ok-caps-in-Ok-Some-clause-hit c =
-    let r = (goal.at.returns-in_ok-caps-in-Ok-Some-clause-hit c).After-run in
-    let there : Some (hit_at c.run.new.caps c.in-Ok-Some.end) ≡ (o r).hit = ap (option_map (hit_at c.run.new.caps)) (sym c.in-Ok-Some.field-0-is) ∙ c.in-Ok-Some.ensures.hit (o r) (means r) in
-    let long = c.run.auto.caps ∙ ap (λ (groups : Caps). length groups) c.as_mut_slice.ensures.value in
-    let same : c.in_ok-caps-in-Ok-Some.caps ≡ with_whole c.args.start (hit_at c.run.new.caps c.in-Ok-Some.end) =
-    c.in_ok-caps-in-Ok-Some.ensures
-    ∙ ap (λ (groups : Caps). with_whole c.args.start (hit_at groups c.in-Ok-Some.end)) (c.as_slice.ensures ∙ refilled c.reset.new.caps.items c.run.new.caps long) in
-    ap Some same ∙ ap (option_map (with_whole c.args.start)) there
-
-pub returns-in_ok-caps-in-Ok-Some-clause-falls : goal.returns-in_ok-caps-in-Ok-Some-clause-falls
-returns-in_ok-caps-in-Ok-Some-clause-falls c = falls (goal.at.returns-in_ok-caps-in-Ok-Some-clause-falls c).After-run
-
 pub returns-in-Err-clause-over : goal.returns-in-Err-clause-over
 returns-in-Err-clause-over c = λ is.
     let r = (goal.at.returns-in-Err-clause-over c).After-run in
@@ -78,3 +61,19 @@ returns-in-Err-clause-over c = λ is.
 
 pub returns-in-Err-clause-falls : goal.returns-in-Err-clause-falls
 returns-in-Err-clause-falls c = falls (goal.at.returns-in-Err-clause-falls c).After-run
+
+pub overflow_cast-result : goal.overflow_cast-result
+overflow_cast-result c =
+    let r = (goal.at.overflow_cast-result c).After-run in
+    let there : Some (hit_at c.run.new.caps c.in-Ok-Some.end) ≡ (o r).hit = ap (option_map (hit_at c.run.new.caps)) (sym c.in-Ok-Some.field-0-is) ∙ c.in-Ok-Some.ensures.hit (o r) (means r) in
+    let within = ends r c.in-Ok-Some.end there in let small = c.requires.small in omega arith
+
+pub returns-in-Ok-Some-clause-hit : goal.returns-in-Ok-Some-clause-hit
+returns-in-Ok-Some-clause-hit c =
+    let r = (goal.at.returns-in-Ok-Some-clause-hit c).After-run in
+    let there : Some (hit_at c.run.new.caps c.in-Ok-Some.end) ≡ (o r).hit = ap (option_map (hit_at c.run.new.caps)) (sym c.in-Ok-Some.field-0-is) ∙ c.in-Ok-Some.ensures.hit (o r) (means r) in
+    let long = c.run.auto.caps ∙ ap (λ (groups : Caps). length groups) c.as_mut_slice.ensures.value in
+    ap (λ (groups : Caps). Some (groups_found groups c.args.start c.in-Ok-Some.end)) (refilled c.reset.new.groups.items c.run.new.caps long) ∙ ap (option_map (with_whole c.args.start)) there
+
+pub returns-in-Ok-Some-clause-falls : goal.returns-in-Ok-Some-clause-falls
+returns-in-Ok-Some-clause-falls c = falls (goal.at.returns-in-Ok-Some-clause-falls c).After-run

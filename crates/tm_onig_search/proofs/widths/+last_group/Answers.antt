@@ -1,8 +1,8 @@
 use Rattle.std.proofs.Common.{ap, ◌∙◌, max, arith}
 use Rattle.tm_onig_search.specs.Find.{last_group}
 use Rattle.tm_onig_class.proofs.Trees.{tree_of-Cat, tree_of-Alt, tree_of-Group, tree_of-Atomic, tree_of-Repeat, tree_of-Look}
-use Rattle.tm_onig_vm.proofs.Near.{groups_none, last_more}
-use Rattle.tm_onig_vm.proofs.widths.+last_group.Goals as goal
+use Rattle.tm_onig_search.proofs.Near.{groups_none, last_more}
+use Rattle.tm_onig_search.proofs.widths.+last_group.Goals as goal
 
 pub last_group-returns-in-Cat : goal.last_group-returns-in-Cat
 unfolding last_group

@@ -8,8 +8,8 @@ use Rattle.tm_onig_class.specs.declared.patterns.Pattern.{Pattern}
 use Rattle.tm_onig_class.specs.Tree.{Trees, More, tree_of, trees}
 use Rattle.tm_onig_search.specs.Widths.{least_width, widths_sum, widths_least, both_widths, width_times, greatest_width, greatest_sum, greatest_of}
 use Rattle.tm_onig_search.specs.Find.{last_group, last_group_of}
-use Rattle.tm_onig_vm.specs.inner.Near.{near}
-use Rattle.tm_onig_vm.proofs.Parts.{parts_at, no_parts}
+use Rattle.tm_onig_search.specs.Near.{near}
+use Rattle.tm_onig_search.proofs.Parts.{parts_at, no_parts}
 
 near_min : (a b : ℕ) → min (near a) (near b) ≡ near (min a b)
 near_min a b = omega arith

@@ -5,7 +5,7 @@ ghost use Rattle.std.specs.Prelude.{◌≡◌, ℕ, ◌+◌, ◌*◌, ◌≤◌,
 ghost use Rattle.tm_onig_class.specs.Tree.{tree_of, trees};
 ghost use Rattle.tm_onig_search.specs.Widths.{least_width, widths_sum, widths_least, both_widths, width_times, greatest_width, greatest_sum, greatest_of};
 ghost use Rattle.tm_onig_search.specs.Find.{last_group, last_group_of};
-ghost use Rattle.tm_onig_vm.specs.inner.Near.{near};
+ghost use Rattle.tm_onig_search.specs.Near.{near};
 
 use tm_onig_class::patterns::Pattern;
 
@@ -27,8 +27,8 @@ fn product(times: u32, width: u64) -> u64
 
 /// The least number of characters that the pattern can match.
 #[cycle(least)]
-#[tactic(auto, using(tm_onig_class::proofs::Trees::nodes), unfolding(tm_onig_search::specs::Widths::least_width))]
-pub(crate) fn least(pattern: &Pattern) -> u64
+#[tactic(auto, using(tm_onig_class::proofs::Trees::nodes), unfolding(crate::specs::Widths::least_width))]
+pub fn least(pattern: &Pattern) -> u64
     ensures { result ≡ near (least_width (tree_of pattern.now)) }
 {
     match pattern {
@@ -79,8 +79,8 @@ fn least_of(parts: &[Pattern]) -> u64
 
 /// The greatest number of characters that the pattern can match, or none where it may be any.
 #[cycle(greatest)]
-#[tactic(auto, using(tm_onig_class::proofs::Trees::nodes), unfolding(tm_onig_search::specs::Widths::greatest_width))]
-pub(crate) fn greatest(pattern: &Pattern) -> Option<u64>
+#[tactic(auto, using(tm_onig_class::proofs::Trees::nodes), unfolding(crate::specs::Widths::greatest_width))]
+pub fn greatest(pattern: &Pattern) -> Option<u64>
     ensures { result ≡ option_map near (greatest_width (tree_of pattern.now)) }
 {
     match pattern {
@@ -155,8 +155,8 @@ fn greatest_of(parts: &[Pattern]) -> Option<u64>
 
 /// The highest number of a group of the pattern.
 #[cycle(last_group)]
-#[tactic(auto, using(tm_onig_class::proofs::Trees::nodes), unfolding(tm_onig_search::specs::Find::last_group))]
-pub(crate) fn last_group(pattern: &Pattern) -> u32
+#[tactic(auto, using(tm_onig_class::proofs::Trees::nodes), unfolding(crate::specs::Find::last_group))]
+pub fn last_group(pattern: &Pattern) -> u32
     ensures { result ≡ last_group (tree_of pattern.now) }
 {
     match pattern {

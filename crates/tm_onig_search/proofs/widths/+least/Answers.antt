@@ -2,8 +2,8 @@ use Rattle.std.proofs.Common.{◌-◌, length, ◌∙◌, arith}
 use Rattle.tm_onig_class.specs.Tree.{tree_of}
 use Rattle.tm_onig_search.specs.Widths.{least_width}
 use Rattle.tm_onig_class.proofs.Trees.{tree_of-Cat, tree_of-Alt, tree_of-Group, tree_of-Atomic, tree_of-Repeat}
-use Rattle.tm_onig_vm.proofs.Near.{near_product, sum_none, sum_more, least_none, least_last, least_more}
-use Rattle.tm_onig_vm.proofs.widths.+least.Goals as goal
+use Rattle.tm_onig_search.proofs.Near.{near_product, sum_none, sum_more, least_none, least_last, least_more}
+use Rattle.tm_onig_search.proofs.widths.+least.Goals as goal
 
 pub least-returns-in-Cat : goal.least-returns-in-Cat
 unfolding least_width

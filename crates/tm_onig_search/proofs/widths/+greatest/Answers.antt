@@ -2,8 +2,8 @@ use Rattle.std.proofs.Common.{◌∙◌, arith}
 use Rattle.tm_onig_class.specs.Tree.{tree_of}
 use Rattle.tm_onig_search.specs.Widths.{greatest_width}
 use Rattle.tm_onig_class.proofs.Trees.{tree_of-Cat, tree_of-Alt, tree_of-Group, tree_of-Atomic, tree_of-Repeat}
-use Rattle.tm_onig_vm.proofs.Near.{greatest_times, plus_none, plus_more, most_none, most_more}
-use Rattle.tm_onig_vm.proofs.widths.+greatest.Goals as goal
+use Rattle.tm_onig_search.proofs.Near.{greatest_times, plus_none, plus_more, most_none, most_more}
+use Rattle.tm_onig_search.proofs.widths.+greatest.Goals as goal
 
 pub greatest-returns-in-Cat : goal.greatest-returns-in-Cat
 unfolding greatest_width
