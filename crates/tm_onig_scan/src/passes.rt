@@ -1,7 +1,7 @@
 //! One pass over the starts of a text: at each start the patterns of a list are tried in their order, and the
 //! first match wins.
 ghost use Rattle.std.specs.Option.{option_copied};
-ghost use Rattle.std.specs.Prelude.{◌≡◌, ◌+◌, ◌<◌, ◌≤◌, ◌^◌, ◌-◌, ¬◌, Some, length, option_map, take, drop, IfOk, IfSome, IsErrOf};
+ghost use Rattle.std.specs.Prelude.{◌≡◌, ◌+◌, ◌<◌, ◌≤◌, ◌^◌, ◌-◌, Some, length, option_map, take, drop, IfOk, IfSome, IsErrOf};
 ghost use Rattle.tm_onig_class.specs.Tree.{tree_of};
 ghost use Rattle.tm_onig_scan.specs.Asked.{asked_subject, put_in, searched_in, subject_in, trees_in};
 ghost use Rattle.tm_onig_scan.specs.Pass.{IsAt, Tries, answer_in, with_groups, pass_around, pass_from, pass_here, pass_one, pass_row};

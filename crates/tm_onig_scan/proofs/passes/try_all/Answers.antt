@@ -29,7 +29,7 @@ module _ (c : After-try_one) where
       c.loop-number.invariant
 
   -- what was found, with its groups
-  groups : ℕ × ℕ → ℕ × Caps
+  abbrev groups : ℕ × ℕ → ℕ × Caps
   groups = with_groups c.try_one.new.room.groups.items c.args.at.start
 
 pub returns-in-Ok-Some : goal.returns-in-Ok-Some

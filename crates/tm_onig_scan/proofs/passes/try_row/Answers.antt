@@ -32,7 +32,7 @@ module _ (c : After-attempt_one) where
       (row_at s c.args.start patterns c.args.row.now c.loop-at.at _ _ (let low = c.loop-at-test.true in omega arith) c.program_of_place-program.ensures) c.loop-at.invariant
 
   -- what was found, with its groups
-  groups : ℕ × ℕ → ℕ × Caps
+  abbrev groups : ℕ × ℕ → ℕ × Caps
   groups = with_groups c.attempt_one.new.room.groups.items c.args.start
 
 pub returns-in-Ok-Some : goal.returns-in-Ok-Some
