@@ -30,7 +30,7 @@ fn number_at(order: &[Value], place: usize) -> Result<u32, CaseFault> {
 }
 
 /// `[NUMBER]` is a setting, and `[VERSION, LINE, COLUMN, LINE, COLUMN, TEXT]` a change.
-fn order_in(alloc: Global, order: &[Value]) -> Result<Order, CaseFault> {
+pub fn order_in(alloc: Global, order: &[Value]) -> Result<Order, CaseFault> {
     let number = number_at(order, 0)?;
     if order.len() == 1 {
         return Ok(Order::Setting { number });
