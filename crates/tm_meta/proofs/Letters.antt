@@ -50,3 +50,21 @@ pub type-inside : (s : List ℕ) (p : ℕ) → in_word s p ≡ true → type_at 
 type-inside s p e =
     four (stands_alone (codes "comment") s (p + 1)) (stands_alone (codes "string") s (p + 1)) (stands_alone (codes "regex") s (p + 1)) (stands_alone (codes "meta.embedded") s (p + 1)) false false false false
     (inside-alone (codes "comment") s p e) (inside-alone (codes "string") s p e) (inside-alone (codes "regex") s p e) (inside-alone (codes "meta.embedded") s p e)
+
+-- no word stands where its third letter does not
+third-letter : (a b w : ℕ) (ws d : List ℕ) (x y z : ℕ) → nat_eq w z ≡ false → starts_with nat_eq (x ∷ y ∷ z ∷ d) (a ∷ b ∷ w ∷ ws) ≡ false
+third-letter a b w ws d x y z e = go (nat_eq a x) (nat_eq b y) (nat_eq w z) (starts_with nat_eq d ws) e
+  where
+    go : (p q r t : Bool) → r ≡ false → (p && (q && (r && t))) ≡ false
+    go true true r t f = ap (λ r. r && t) f
+    go true false r t f = refl
+    go false q r t f = refl
+
+pub type-third : (s : List ℕ) (p x y z : ℕ) (d : List ℕ) → drop p s ≡ x ∷ y ∷ z ∷ d → nat_eq 109 z ≡ false → nat_eq 114 z ≡ false → nat_eq 103 z ≡ false → nat_eq 116 z ≡ false → type_at s p ≡ None
+type-third s p x y z d e m r g t =
+    four (stands_alone (codes "comment") s p) (stands_alone (codes "string") s p) (stands_alone (codes "regex") s p) (stands_alone (codes "meta.embedded") s p) false false false false
+    (by (codes "comment") (third-letter 99 111 109 (codes "ment") d x y z m)) (by (codes "string") (third-letter 115 116 114 (codes "ing") d x y z r))
+    (by (codes "regex") (third-letter 114 101 103 (codes "ex") d x y z g)) (by (codes "meta.embedded") (third-letter 109 101 116 (codes "a.embedded") d x y z t))
+  where
+    by : (word : List ℕ) → starts_with nat_eq (x ∷ y ∷ z ∷ d) word ≡ false → stands_alone word s p ≡ false
+    by word f = not-alone word s p (ap (λ xs. starts_with nat_eq xs word) e ∙ f)

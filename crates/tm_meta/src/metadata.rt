@@ -3,7 +3,7 @@
 //! Colours and fonts come with themes, and this tokenizer has none: every token has language 1, font
 //! style 0, foreground 1 and background 2. The metadata is computed when a piece is painted, so that
 //! nothing beside the table grows with it.
-ghost use Rattle.std.specs.Prelude.{◌≡◌, ◌<◌, ◌≤◌, ◌-◌, ◌==◌, ◌&&◌, ◌++◌, ◌∷◌, [], length, not, IfOk};
+ghost use Rattle.std.specs.Prelude.{◌≡◌, ◌<◌, ◌≤◌, ◌-◌, ◌==◌, ◌&&◌, ◌++◌, ◌∷◌, [], length, not, false, None, IfOk};
 ghost use Rattle.tm_defs.specs.Tables.{path_at};
 ghost use Rattle.tm_meta.specs.Metadata.{in_word, stands_alone, type_at, decided_type, packed, metadata_of};
 
@@ -55,6 +55,17 @@ fn alone(word: &[char], scope: &[char], place: usize) -> bool
         return false;
     }
     !word_at(scope, place + word.len())
+}
+
+/// Whether one of the words may stand at a place, by its third letter: most words that scopes have are told by it.
+pub fn may_decide(scope: &[char], place: usize) -> bool
+    requires { place ≤ length scope.now }
+    ensures { result ≡ false → type_at scope.now place ≡ None }
+{
+    match &scope[place..] {
+        [_, _, third, ..] => *third == 'm' || *third == 'r' || *third == 'g' || *third == 't',
+        _ => false,
+    }
 }
 
 /// The token type of the word that stands alone at a place. Its first letter says which word it can be.
