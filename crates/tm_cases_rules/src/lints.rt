@@ -4,13 +4,14 @@ use crate::printed::push_name;
 use crate::rules;
 use std::alloc::Global;
 use tm_cases::CaseFault;
-use tm_line_lint::unreadable;
-use tm_rules::rules::Rules;
+use tm_line_lint::{Unread, unreadable_of};
+use tm_onig_atom::store::Sets;
+use tm_rules::grammars::RulesFault;
 
 /// The unreadable patterns: the scope of a grammar, and the path of a key in its file.
-fn listed(alloc: Global, rules: &Rules) -> Result<String, CaseFault> {
+fn listed(alloc: Global, all: &[Unread]) -> Result<String, CaseFault> {
     let mut text = String::new(alloc);
-    for unread in unreadable(alloc, rules).or(Err(CaseFault::OutOfMemory))? {
+    for unread in all {
         if !text.is_empty() {
             text.push_str(", ")?;
         }
@@ -23,8 +24,10 @@ fn listed(alloc: Global, rules: &Rules) -> Result<String, CaseFault> {
 
 /// What is listed of grammars.
 pub(crate) fn answer(alloc: Global, files: &str) -> Result<String, CaseFault> {
-    match rules::build(alloc, files)? {
-        Some(rules) => listed(alloc, &rules),
-        None => Ok(String::from_str(alloc, "TooManyRules")?),
+    let grammars = rules::grammars_of(alloc, files)?;
+    match unreadable_of(alloc, &mut Sets::new(alloc), &grammars) {
+        Ok(all) => listed(alloc, all.as_slice()),
+        Err(RulesFault::TooManyRules) => Ok(String::from_str(alloc, "TooManyRules")?),
+        Err(RulesFault::OutOfMemory) => Err(CaseFault::OutOfMemory),
     }
 }

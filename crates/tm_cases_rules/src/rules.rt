@@ -235,7 +235,7 @@ fn read(alloc: Global, file: &str) -> Result<RawGrammar, CaseFault> {
 }
 
 /// The root grammar, further ones behind ` ++ ` and injected ones behind ` ** `.
-fn grammars_of(alloc: Global, files: &str) -> Result<Grammars, CaseFault> {
+pub(crate) fn grammars_of(alloc: Global, files: &str) -> Result<Grammars, CaseFault> {
     let mut more = Vec::new(alloc);
     let mut injected = Vec::new(alloc);
     let mut root = read(alloc, "{\"scopeName\":\"\"}")?;
@@ -259,7 +259,7 @@ fn grammars_of(alloc: Global, files: &str) -> Result<Grammars, CaseFault> {
 }
 
 /// The rules of grammars, where there are not too many.
-pub(crate) fn build(alloc: Global, files: &str) -> Result<Option<Rules>, CaseFault> {
+fn build(alloc: Global, files: &str) -> Result<Option<Rules>, CaseFault> {
     match Rules::build(alloc, &grammars_of(alloc, files)?) {
         Ok(rules) => Ok(Some(rules)),
         Err(RulesFault::TooManyRules) => Ok(None),
