@@ -13,10 +13,10 @@ use tm_onig_vm::fault::FindFault;
 use tm_onig_vm::program::{Prog, compile, find, instructions};
 
 /// The least length, in characters, of a line that is too long.
-const TOO_LONG: usize = 0x8000_0000;
+pub(crate) const TOO_LONG: usize = 0x8000_0000;
 
 /// The lines of standard input.
-fn lines_of(rt: &HostRuntime) -> Result<Vec<String>> {
+pub(crate) fn lines_of(rt: &HostRuntime) -> Result<Vec<String>> {
     let mut lines = Vec::new(rt.alloc());
     for line in BufReader::new(rt.alloc(), rt.reader())?.lines(rt.alloc()) {
         lines.push(line?)?;
