@@ -22,7 +22,8 @@ abbrev pub end_made_of : List ℕ → Match → Option (List ℕ) → Option (Li
 end_made_of text m None = None
 end_made_of text m (Some end) = if has_reference end then Some (resolved end text m.groups) else None
 
--- A turn searches every candidate of the open rule.
+-- A turn searches every candidate of the open rule. No rule is held up by a `while`: grammar files that have one are refused
+-- so far.
 abbrev pub rules_language : List Rule → Language
 rules_language rules = record {
   rules = length rules;
